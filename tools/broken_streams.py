@@ -69,8 +69,6 @@ def fed(path: str | int, pieces: list[bytes]) -> Iterator[None]:
 
 
 class Runs(Trials):
-    """Runs of a program, and how many came to what they must."""
-
     def make(self, what: str, wanted: Told, *words: Word, of_messages: bool = False, **streams: Any) -> None:
         """Makes a run, which must come to this: on standard output, or on standard error where that is asked for."""
         try:
@@ -82,7 +80,6 @@ class Runs(Trials):
 
 
 def give_input(runs: Runs, room: Path) -> None:
-    """Makes runs with input that is broken."""
     big, fifo, directory = room / "big", room / "fifo", os.open(room, os.O_RDONLY)
     with big.open("wb") as file:
         file.truncate(4 << 30)
@@ -125,7 +122,6 @@ def take_output(runs: Runs, missing: Path) -> None:
 
 
 def main(words: list[str]) -> int:
-    """Makes the runs, and prints the totals."""
     runs = Runs(program_parser(__doc__).parse_args(words).program)
     with tempfile.TemporaryDirectory() as folder:
         give_input(runs, Path(folder))

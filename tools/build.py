@@ -100,7 +100,6 @@ class Build:
             raise Unproved(f"{crate} is not proved")
 
     def build_library(self, name: str, jobs: int) -> None:
-        """Builds a library."""
         self.prove(name, lambda log: kit().build(self.asked[name], jobs, log))
 
     def build_program(self, jobs: int, log: IO[str]) -> bool:
@@ -151,7 +150,6 @@ def install(prefix: Path, places: dict[Path, str] = PLACES) -> None:
 
 
 def main(words: list[str]) -> int:
-    """Builds the program, and installs it if that is asked for."""
     parser = parser_of(__doc__)
     parser.add_argument("--install", type=Path, metavar="PREFIX", help="copy the program, its man page and its completions below PREFIX")
     given = parser.parse_args(words)

@@ -73,7 +73,6 @@ class Accepted(NamedTuple):
         return rest
 
     def is_part(self) -> bool:
-        """Whether the arguments ask for a part of the numbers."""
         return (self.arguments.first, self.arguments.last) != (0, CEILING)
 
     def run(self) -> list[str]:
@@ -148,7 +147,6 @@ class Accepted(NamedTuple):
 
 
 def arguments_of(words: list[str]) -> tuple[argparse.Namespace, list[str]]:
-    """The program's own arguments, and those that name files."""
     parser = argparse.ArgumentParser(exit_on_error=False, add_help=False, allow_abbrev=False)
     parser.add_argument("task")
     for name, default in NUMBERS.items():
@@ -170,7 +168,6 @@ def arguments_of(words: list[str]) -> tuple[argparse.Namespace, list[str]]:
 
 
 def rule_of(a: argparse.Namespace) -> str:
-    """The rule that the arguments ask for."""
     numbers = "".join(f"{int(it)} ∷ " for it in (a.set or "").split(",") if it) + "[]"
     given = [
         (a.set, f"R.Set ({numbers})"),
@@ -211,7 +208,6 @@ def accepted(case: Case, name: str) -> tuple[Accepted, str] | str:
 
 
 def theorem(name: str, it: Accepted, text: str) -> str:
-    """A case as antt text: its script, its claims and their proof."""
     claims: list[str] = getattr(it, it.arguments.task)()
     claim, proof = claims[0], "refl"
     if len(claims) > 1:
@@ -307,7 +303,6 @@ def module_of(subject: str, names: list[str], is_whole: bool) -> str:
 
 
 def files_of(theorems: dict[str, dict[str, str]]) -> dict[str, str]:
-    """The text of each file by its place below the crate's folder, from theorems by what they are about and their names."""
     lines = SHORTHANDS.read_text(encoding="utf-8").split("\n")[2:]
     modules = {}
     for subject, some in sorted(theorems.items()):
@@ -322,7 +317,6 @@ def files_of(theorems: dict[str, dict[str, str]]) -> dict[str, str]:
 
 
 def main(words: list[str]) -> int:
-    """Reads the arguments, and writes the files."""
     parser = parser_of(__doc__)
     parser.add_argument("--in", type=Path, default=CASES, metavar="FOLDER", dest="folder", help="the folder of the groups, if not cases/")
     parser.add_argument("--out", type=Path, default=WORKED, help="the folder to write into, if not the crate's")

@@ -21,7 +21,6 @@ PROGRAM = ROOT / "crates" / PROGRAM_CRATE / "out" / PROGRAM_CRATE
 
 
 def examples() -> list[Path]:
-    """The scripts of the examples."""
     return sorted(EXAMPLES.glob("*.oom"))
 
 
@@ -47,8 +46,6 @@ Word = str | bytes | Path
 
 
 class Answer(NamedTuple):
-    """What a run writes to the streams that are read, and its status."""
-
     output: bytes
     messages: bytes
     status: int
@@ -88,7 +85,7 @@ def program_at(path: str) -> Path:
     return Path(path).resolve()
 
 
-LAST_LINE = re.compile(r"(\d+) passed, (\d+) failed")
+LAST_LINE = re.compile(r"^(\d+) passed, (\d+) failed\s*\Z", re.MULTILINE)
 
 
 @dataclass
@@ -106,7 +103,6 @@ class Tally:
             print(fault, flush=True)
 
     def add(self, passed: int, failed: int) -> None:
-        """Counts what passed and failed elsewhere."""
         self.passed += passed
         self.failed += failed
 
@@ -137,21 +133,15 @@ class Trials(Tally):
 
 
 def summed(tallies: Iterable[Tally]) -> Tally:
-    """How much passed and failed in all."""
     known = list(tallies)
     return Tally(sum(it.passed for it in known), sum(it.failed for it in known))
-
-
-def read_tally(line: str) -> Tally | None:
-    """What a last line tells, if it is one."""
-    told = LAST_LINE.fullmatch(line.strip())
-    return Tally(int(told[1]), int(told[2])) if told else None
 
 
 def tally_of(said: str, status: int, may_be_none: bool = False) -> Tally:
     """What a command counts as that prints this and ends with this status. One that tries nothing has failed, unless there may be nothing
     to try."""
-    told = read_tally(said.removesuffix("\n").rpartition("\n")[2]) or Tally(0, 1)
+    last = LAST_LINE.search(said)
+    told = Tally(*map(int, last.groups())) if last else Tally(0, 1)
     # a command that fails without a failure in its tally counts as one
     is_fault = status != 0 or not (told.passed or told.failed or may_be_none)
     return Tally(told.passed, told.failed or int(is_fault))

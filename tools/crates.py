@@ -47,11 +47,9 @@ class Crates:
         self.lines = {it.partition(":")[0].split()[0]: it for it in rows if it}
 
     def folder(self, crate: str) -> Path:
-        """Where a crate stands."""
         return self.root / "crates" / crate
 
     def uses(self, crate: str) -> list[str]:
-        """The crates of the repository that its line names."""
         return [it for it in self.lines[crate].partition(":")[2].split() if it in self.lines]
 
     def below(self, crate: str) -> list[str]:
@@ -62,16 +60,13 @@ class Crates:
         return found
 
     def files(self, crate: str) -> list[Path]:
-        """The files that a crate is made of, in the order of their names."""
         walked = (it for part in PARTS for it in (self.folder(crate) / part).rglob("*"))
         return sorted(it for it in walked if it.is_file())
 
     def lines_of(self, crate: str) -> int:
-        """How many lines a crate's code, definitions and proofs have."""
         return sum(it.read_bytes().count(b"\n") for it in self.files(crate))
 
     def copy(self, crate: str, target: Path) -> None:
-        """Copies the files that a crate is made of into a folder."""
         for part in PARTS:
             if (source := self.folder(crate) / part).is_dir():
                 shutil.copytree(source, target / part, dirs_exist_ok=True)
@@ -114,7 +109,6 @@ def building() -> Iterator[None]:
 
 
 def is_being_built() -> bool:
-    """Whether another call is building the program."""
     lock = os.open(TOOLS, os.O_RDONLY)
     try:
         fcntl.flock(lock, fcntl.LOCK_SH | fcntl.LOCK_NB)
@@ -138,8 +132,6 @@ def processors(memory: int = MEMORY) -> int:
 
 @dataclass
 class Step:
-    """A piece of work on a crate."""
-
     crate: str
     # does it, with so many processors
     work: Callable[[int], None]
@@ -181,11 +173,6 @@ def run_steps(steps: list[Step], lanes: int) -> None:
         pool.shutdown(wait=False, cancel_futures=True)
 
 
-def without_comments(text: str) -> str:
-    """The text without the lines that are comments as a whole."""
-    return re.sub(r"(?m)^[ \t]*//.*\n", "", text)
-
-
 # the toolchain whose module this was written for
 WRITTEN_FOR = "rattle-kit-13f"
 
@@ -213,7 +200,6 @@ class Kit:
         self.module = module
 
     def crates(self, root: Path, names: Iterable[str]) -> dict[str, Any]:
-        """These crates of a repository, by their names."""
         known: dict[str, Any] = {}
         found = {it: self.module.Crate(str(root / "crates" / it), str(root), known) for it in names}
         stop_if_changed(sorted({f"a crate has no `{part}`" for it in found.values() for part in LOOKED_AT if not hasattr(it, part)}))
@@ -248,12 +234,10 @@ class Kit:
 
 
 def version() -> str:
-    """The toolchain, as it calls itself."""
     return subprocess.run(["rt", "version"], stdout=subprocess.PIPE, text=True).stdout.strip() if shutil.which("rt") else "no toolchain"
 
 
 def kit_of_readme(readme: str) -> str:
-    """The toolchain that the README names, if it names one."""
     named = NAMED.search(readme)
     return named[1] if named else ""
 
@@ -280,7 +264,6 @@ def stop_if_changed(changes: Iterable[str]) -> None:
 
 
 def module_behind_rt() -> ModuleType:
-    """The module, as it stands beside the command `rt`."""
     command = shutil.which("rt")
     if command is None:
         sys.exit("the toolchain's command rt is not on the path")
@@ -298,5 +281,4 @@ def module_behind_rt() -> ModuleType:
 
 @cache
 def kit() -> Kit:
-    """The toolchain's module, read once."""
     return Kit(module_behind_rt())

@@ -120,7 +120,6 @@ class Mistake(NamedTuple):
     words: set[str] = set()
 
     def is_named(self, explanation: str) -> bool:
-        """Whether an explanation names the mistaken word or line."""
         names = [*(f"script.oom:{number}: " for number in self.numbers), *(f"`{word}`" for word in self.words)]
         return any(it in explanation for it in names)
 
@@ -135,7 +134,6 @@ def words_of(line: str) -> list[str]:
 
 
 def indented(line: str, words: list[str]) -> str:
-    """A line of other words, as far to the right as this one."""
     return line[: len(line) - len(line.lstrip())] + " ".join(words)
 
 
@@ -180,7 +178,6 @@ def end_gone(lines: list[str], at: int, turn: int) -> Mistake | None:
 
 
 def end_too_many(lines: list[str], at: int, turn: int) -> Mistake | None:
-    """Writes an `end` behind a statement."""
     words = words_of(lines[at])
     if not words or opens(words) or words[0] in {"else", "field"}:
         return None
@@ -188,7 +185,6 @@ def end_too_many(lines: list[str], at: int, turn: int) -> Mistake | None:
 
 
 def declaration_gone(lines: list[str], at: int, turn: int) -> Mistake | None:
-    """Leaves out one declaration of the script."""
     declared = [(place, words[1]) for place, words in enumerate(map(words_of, lines)) if words and words[0] in DECLARATIONS]
     gone, name = declared[turn % len(declared)] if declared else (0, "")
     return Mistake(lines[:gone] + lines[gone + 1 :], {gone + 1}, {name}) if declared else None
@@ -209,7 +205,6 @@ MAKERS: list[Maker] = [
 
 
 def sources() -> list[str]:
-    """The scripts of the examples and of the guide's cases."""
     cases = [it.script.decode() for it in cases_of("guide")]
     return [it.read_text() for it in examples()] + [it for it in cases if it.strip()]
 

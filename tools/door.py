@@ -46,14 +46,12 @@ def about(command: str) -> str:
 
 
 def listed() -> str:
-    """All commands with what they do."""
     width = max(map(len, COMMANDS))
     rows = (f"  {command:{width}}  {about(command)}" for command in COMMANDS)
     return "\n".join(["./tools/dev COMMAND [..]; ./tools/dev COMMAND --help says more of one.", "", *rows])
 
 
 def main(words: list[str]) -> int:
-    """Runs a command, and gives its exit status."""
     if not words or words[0] in HELP:
         print(listed())
         return 0
@@ -68,8 +66,6 @@ def main(words: list[str]) -> int:
 
 
 class Said(NamedTuple):
-    """How a command ended, and what it wrote."""
-
     status: int
     output: str
     messages: str

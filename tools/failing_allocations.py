@@ -112,7 +112,6 @@ def says_less(answer: Answer, plain: Answer) -> bool:
 
 
 def shown(answer: Answer, plain: Answer) -> str:
-    """What a wrong answer says: the first line that is another one, and its messages."""
     pairs = zip_longest(answer.output.splitlines(), plain.output.splitlines())
     other = next((f"line {at} is {it!r} in place of {right!r}" for at, (it, right) in enumerate(pairs, 1) if it != right), "all lines")
     return f"{other}, and {answer.messages!r}"
@@ -142,7 +141,6 @@ class Trial:
         return answer_of(self.program, *self.words, script=self.given, env=world, cwd=ROOT, **streams)
 
     def numbers(self, last: int) -> list[int]:
-        """Which allocations are tried of so many."""
         first = last if self.is_same else min(FIRST, last)
         later = range(first + 1, last + 1)
         return [*range(1, first + 1), *later[:: max(1, len(later) // LATER)]]
@@ -234,7 +232,6 @@ def passes(trial: Trial, tried: Path) -> bool:
 
 
 def main(words: list[str]) -> int:
-    """Tries each script, or the program alone, and prints the totals."""
     parser = program_parser(__doc__)
     parser.add_argument("--same", action="store_true", help="the program makes a call once more where it found no memory")
     parser.add_argument("scripts", type=Path, nargs="*", metavar="SCRIPT")

@@ -27,8 +27,6 @@ ENDED = re.compile(r"rt: (\w+)(: its tests are)? (?:proved|NOT PROVED)\n?")
 
 
 class ToolRun(NamedTuple):
-    """A tool that is to run."""
-
     # its command and further words
     words: tuple[str, ...]
     # whether it spreads its runs over processors itself, and whether it takes so long that it begins with half of all
@@ -38,13 +36,10 @@ class ToolRun(NamedTuple):
     is_one: bool = False
 
     def name(self) -> str:
-        """What it is called."""
         return " ".join(self.words)
 
 
 class Outcome(NamedTuple):
-    """What came of a tool."""
-
     name: str
     tally: Tally
     # how long it took by the clock, and how long the processors worked for it and for what it ran
@@ -53,18 +48,14 @@ class Outcome(NamedTuple):
 
 
 def tool(command: str, *words: str | Path) -> list[str | Path]:
-    """The words that run a tool by its command."""
     return [sys.executable, "-I", TOOLS / "dev", command, *words]
 
 
 def processor_seconds(used: resource.struct_rusage) -> float:
-    """How long the processors worked, by what the system counted."""
     return used.ru_utime + used.ru_stime
 
 
 class ToolRuns:
-    """Runs of tools, and what came of them."""
-
     def __init__(self) -> None:
         self.outcomes: list[Outcome] = []
         self.printing = Lock()
@@ -101,7 +92,6 @@ class ToolRuns:
         run_steps(steps, lanes)
 
     def times(self) -> Iterator[str]:
-        """How long each tool took, those first for which the processors worked longest."""
         width = max(len(it.name) for it in self.outcomes)
         for it in sorted(self.outcomes, key=lambda it: -it.processor_seconds):
             yield f"    {it.name:{width}} {it.seconds:6.1f} s, and {it.processor_seconds:6.1f} s of processor time"
@@ -144,5 +134,4 @@ class ProofChain:
 
 
 def minutes(seconds: float) -> str:
-    """How many minutes these are, right-aligned."""
     return f"{seconds / 60:6.1f}"

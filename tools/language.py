@@ -20,8 +20,6 @@ PLACE = re.compile(r"OperandPlace::Keyword\(Keyword::(\w+)\)|(\w+)")
 
 @dataclass(frozen=True)
 class Line:
-    """A kind of line."""
-
     kind: str
     word: str
     # the keyword behind the word, of a condition
@@ -54,7 +52,6 @@ def lines_in(source: str) -> Iterator[Line]:
 
 @cache
 def lines_by_kind(source: Path = SOURCE) -> dict[str, Line]:
-    """All kinds of lines, by their names in `wb_tree`."""
     return {it.kind: it for it in lines_in(source.read_text(encoding="utf-8"))}
 
 
@@ -66,5 +63,4 @@ def line_of(word: str, role: str) -> Line:
 
 @cache
 def words_of_roles(*roles: str) -> frozenset[str]:
-    """The words that begin the lines of these roles."""
     return frozenset(it.word for it in lines_by_kind().values() if it.role in roles)

@@ -18,14 +18,13 @@ from collections.abc import Iterator
 from pathlib import Path
 
 from tools.common import ROOT, TOOLS, Tally, parser_of
-from tools.crates import FUNCTION_HEAD, Crates, kit
-from tools.edits.wrong_body_edits import MUST_FAIL, WRONG_BODIES, functions_of, read_edits
+from tools.crates import Crates, kit
+from tools.edits.wrong_body_edits import MUST_FAIL, WRONG_BODIES, functions_in, read_edits
 
 KEPT = TOOLS / "no-memory.txt"
 
 # crates that the program has nothing of: those of tests, and what is measured
 APART = re.compile(r"\w+_tests|bench_\w+")
-NAME = re.compile(rf"(?m)^{FUNCTION_HEAD}(\w+)")
 # the allocator's error, the struct or a variant, where it isn't a type, and no function of it is called
 VALUE = re.compile(r"(?<![<&])\b(?:AllocError|NoMemory)\b(?!::|>)")
 # what is no value: comments, types and patterns, and what is compared
@@ -42,9 +41,8 @@ def bodies(crates: Crates) -> Iterator[str]:
 def makers(text: str) -> list[str]:
     """The functions of a file whose bodies make such an error, in the order of their names; behind a name how often, if more than once."""
     lines, found = text.splitlines(keepends=True), Counter[str]()
-    for name in {it[2] for it in NAME.finditer(text)}:
-        for _, body in functions_of(name, lines):
-            found[name] += len(VALUE.findall(NO_VALUE.sub("", "".join(lines[body.start : body.stop]))))
+    for name, _, body in functions_in(lines):
+        found[name] += len(VALUE.findall(NO_VALUE.sub("", "".join(lines[body.start : body.stop]))))
     return sorted(f"{name} {count}" if count > 1 else name for name, count in found.items() if count)
 
 
@@ -85,21 +83,14 @@ def fault_of(crates: Crates, crate: str) -> str:
         return said.read().strip() or "its files have another layout"
 
 
-def misfits(crates: Crates, crate: str) -> list[str]:
-    """The wrong bodies of a crate that don't fit its sources, each with the reason."""
-    bad = read_edits(crates.folder(crate), [WRONG_BODIES, MUST_FAIL])[1]
-    return [f"{label}: {why}" for label, why in sorted(bad.items())]
-
-
 def main(words: list[str]) -> int:
-    """Looks at all crates, and names those with another layout, the wrong bodies that don't fit, and the bodies that make such an error."""
     parser_of(__doc__).parse_args(words)
     crates, tally = Crates(ROOT), Tally()
     for crate in crates.lines:
         fault = fault_of(crates, crate)
         tally.check(not fault, f"{crate}: {fault}")
-        unfit = misfits(crates, crate)
-        tally.check(not unfit, "\n".join(unfit))
+        unfit = read_edits(crates.folder(crate), [WRONG_BODIES, MUST_FAIL])[1]
+        tally.check(not unfit, "\n".join(f"{label}: {why}" for label, why in sorted(unfit.items())))
     other = differences(crates)
     tally.check(not other, "\n".join(other))
     return tally.end()

@@ -45,8 +45,6 @@ TYPED = b"workbench: the script is read from the terminal; end it with Ctrl-D on
 
 
 class Kind(NamedTuple):
-    """A kind of sweep, or of a search through all lengths."""
-
     words: list[str]
     # the script, with a place for how many attempts fail one by one
     text: str
@@ -59,11 +57,9 @@ class Kind(NamedTuple):
     most: int = 1
 
     def script(self, attempts: int) -> bytes:
-        """The script of so many attempts."""
         return self.text.format(attempts).encode()
 
     def lines(self, shown: "Shown") -> list[re.Match[str]]:
-        """What was said of what was tried."""
         return list(LINES.get(self.calls, LINE).finditer(shown.bytes().decode("ascii")))
 
     def run(self, program: Path, script: bytes, **streams: Any) -> Answer:
@@ -79,7 +75,6 @@ class Shown(NamedTuple):
     seconds: float
 
     def bytes(self) -> bytes:
-        """All of it."""
         return b"".join(piece for _, piece in self.pieces)
 
 

@@ -112,7 +112,6 @@ def wanted_of(answer: str) -> tuple[tuple[int, ...], re.Pattern[bytes]]:
 
 
 def shown(case: Case) -> str:
-    """The command of a case as it would be typed in a shell, and its answer as comments."""
     lines = [f"# {case.place}: status {case.status}", typed(case.script, shlex.join(["./workbench", *case.args]))]
     lines += [f"# {it}" for it in case.contains or []]
     for name, text in (("standard output", case.stdout), ("standard error", case.stderr)):
@@ -121,7 +120,6 @@ def shown(case: Case) -> str:
 
 
 def typed(script: bytes, command: str) -> str:
-    """A command that is given a script."""
     lines = script.decode("latin-1").split("\n")
     if not script:
         return f"{command} </dev/null"
@@ -192,7 +190,6 @@ class Chosen(NamedTuple):
         return not name or f"{self.group.name}/".startswith(f"{name}/") or name in own or name in (f"{self.group.name}/{it}" for it in own)
 
     def shown(self) -> str:
-        """What it looks like in a shell; a table as it is written."""
         return shown(self.case) if self.case else "\n".join([*self.group.lines_of_block(self.block), ""])
 
     def told(self, program: Path, is_writing: bool) -> Iterator[tuple[bool, str]]:
@@ -237,7 +234,6 @@ def all_in(folder: Path, tally: Tally) -> Iterator[Chosen]:
 
 
 def main(words: list[str]) -> int:
-    """Does what is asked for with each case and each row, says what is wrong, and prints the totals."""
     parser = program_parser(__doc__)
     parser.add_argument("names", nargs="*", metavar="NAME", default=[""])
     parser.add_argument("--in", type=Path, default=CASES, metavar="FOLDER", dest="folder", help="the folder of the groups, if not cases/")

@@ -60,7 +60,6 @@ def among(words: Collection[str], word: str, read_as: str) -> str:
 
 
 def found(table: Mapping[str, Value], word: str, read_as: str) -> Value:
-    """What a table says of a word."""
     return table[among(table, word, read_as)]
 
 
@@ -70,22 +69,18 @@ def apply(name: str, *arguments: str) -> str:
 
 
 def listed(items: list[str]) -> str:
-    """A list."""
     return " ∷ ".join([*(f"({it})" if " " in it else it for it in items), "[]"])
 
 
 def integer(n: int) -> str:
-    """A whole number of either sign."""
     return f"pos {n}" if n >= 0 else f"negsuc {-n - 1}"
 
 
 def option(term: str | None) -> str:
-    """A value that may be missing."""
     return "None" if term is None else apply("Some", term)
 
 
 def text_term(text: str) -> str:
-    """A text as the list of its bytes."""
     return listed([str(ord(it)) for it in text])
 
 
@@ -95,17 +90,14 @@ def named(words: Collection[str], word: str, read_as: str) -> str:
 
 
 def cut_term(word: str) -> str:
-    """The outcome of a run that was cut."""
     return apply("Cut", named(CUTS, word, "why a run is cut"))
 
 
 def panic_term(words: list[str]) -> str:
-    """A panic, by its category and its number."""
     return apply("P." + named(PANICS, words[0], "a panic's category"), str(int(words[1], 16 if words[0] == "ALLOC" else 10)))
 
 
 def outcome_term(told: dict[str, list[list[str]]]) -> str:
-    """The outcome, from the words of a report's lines by their first ones."""
     if "panic" in told:
         return apply("Panicked", panic_term(told["panic"][0]))
     if "cut" in told:
@@ -117,7 +109,6 @@ def outcome_term(told: dict[str, list[list[str]]]) -> str:
 
 
 def run_term(lines: list[str]) -> str:
-    """The result that a run text tells."""
     told: dict[str, list[list[str]]] = {key: [] for key in ("attempt", "note")}
     printed: list[str] = []
     for key, _, rest in (line.partition(" ") for line in lines):
@@ -158,8 +149,6 @@ def words_of(line: str) -> list[str]:
 
 
 class Local(NamedTuple):
-    """A local or parameter of a body: `ptr`, `int`, `buf` or `view`, and a pointer's class."""
-
     sort: str
     index: int
     class_name: str | None = None
@@ -196,12 +185,10 @@ class Reader:
         self.this: str | None = None
 
     def next_line(self) -> list[str]:
-        """Takes the next line's words, and keeps its number."""
         self.line, words = self.lines.pop()
         return words
 
     def index(self, sort: str, name: str) -> str:
-        """The index of a class, a procedure or an operation, by its name."""
         return str(found(self.indexes[sort], name, f"the name of {sort}"))
 
     def class_option(self, name: str | None) -> str:
@@ -209,7 +196,6 @@ class Reader:
         return option(None if name is None else self.index("a class", name))
 
     def script(self) -> str:
-        """The whole script."""
         items: dict[str, list[str]] = {word: [] for word in NAMED}
         while self.lines:
             words, line = self.next_line(), str(self.line)
@@ -230,7 +216,6 @@ class Reader:
         return apply("script", *map(listed, items.values()), literals, self.index("a procedure", "main"))
 
     def class_term(self, name: str, line: str, extra: str) -> str:
-        """A class, of which the first line has been read."""
         bodies: dict[str, str | None] = {"construct": None, "destroy": None}
         while (words := self.next_line())[0] != "end":
             if among(("field", *bodies), words[0], "a line of a class") in bodies:
@@ -247,7 +232,6 @@ class Reader:
         return apply("body", listed(begun), listed(self.block()[0]))
 
     def declaration(self, sort: str, name: str, *more: str) -> str:
-        """A local."""
         most = sort in ("ptr", "buf")
         if len(more) > most:
             raise UnknownWord(more[most], f"a word of `{sort}`")
@@ -266,7 +250,6 @@ class Reader:
         return statements, words[0]
 
     def statement(self, key: str, operands: list[str]) -> str:
-        """One statement, with what stands inside it."""
         if key in STATEMENTS:
             name, *rest = STATEMENTS[key]
             return apply(name, *self.operands(key, line_of(key, "Plain").places, operands), *rest)
@@ -301,7 +284,6 @@ class Reader:
         return list(map(self.operand, places, words))
 
     def operand(self, place: str, word: str) -> str:
-        """An operand by its place."""
         match place:
             case "Pointer" | "Written":
                 return self.pointer(word)
@@ -322,11 +304,9 @@ class Reader:
         return self.index(found({"Class": "a class", "Operation": "an operation"}, place, "the place of an operand"), word)
 
     def local_named(self, word: str) -> Local:
-        """A local of the body."""
         return found(self.locals, word, "a local or an operand")
 
     def local(self, word: str) -> str:
-        """A local by its name."""
         return str(self.local_named(word).index)
 
     def sort_of(self, word: str) -> str:
@@ -338,7 +318,6 @@ class Reader:
         return "ptr" if "." in word or word == "self" else self.local_named(word).sort
 
     def pointer(self, word: str) -> str:
-        """A pointer: a variable, or a field of what one points to."""
         base, mark, name = word.partition(".")
         holder = "H.This" if base == "self" else apply("H.Local", self.local(base))
         if not mark:

@@ -262,22 +262,18 @@ def copy_held(target: Path, pipe: Path, made: Path) -> None:
 
 
 def program_crates(crates: Crates) -> list[str]:
-    """The crates that the program is compiled from."""
     return [*crates.below(PROGRAM_CRATE), PROGRAM_CRATE]
 
 
 def listed(crates: Crates) -> str:
-    """The lines of `crates.txt` that tell of these crates."""
     return "".join(f"{crates.lines[it]}\n" for it in program_crates(crates))
 
 
 def environment() -> dict[str, str]:
-    """The environment of a program that is compiled without its proof."""
     return {name: value for name, value in os.environ.items() if name != CHECKS}
 
 
 def say(text: str) -> None:
-    """Writes a line to standard error."""
     print(f"{NAME}: {text}", file=sys.stderr, flush=True)
 
 
@@ -354,7 +350,6 @@ def become(words: list[str], environment: dict[str, str], file: str = "") -> NoR
 
 
 def main(words: list[str]) -> int:
-    """Turns into the program, or answers in its place."""
     # as the program itself would end
     signal.signal(signal.SIGINT, signal.SIG_DFL)
     crates = Crates()

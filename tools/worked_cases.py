@@ -37,7 +37,6 @@ class CaseError(Exception):
 
 
 def meaning(text: str) -> bytes:
-    """The bytes that a text means."""
     return meant(text).encode("latin-1")
 
 
@@ -86,7 +85,6 @@ def spelled_line(line: str) -> str:
 
 
 def spelled(text: bytes) -> list[str]:
-    """The lines in which a text is written."""
     *lines, last = text.decode("latin-1").split("\n")
     return [*map(spelled_line, lines), *([spelled_line(last) + "\\"] if last else [])]
 
@@ -110,7 +108,6 @@ class Case:
 
     @property
     def place(self) -> str:
-        """Its group and its name."""
         return f"{self.group}/{self.name}"
 
 
@@ -136,16 +133,13 @@ class Group:
     spelling: dict[bytes, list[str]] = field(default_factory=dict)
 
     def cases(self) -> list[Case]:
-        """Its cases."""
         return [case for block in self.blocks for case in block.cases]
 
     def text(self) -> str:
-        """What its file holds."""
         parts = [*([self.head] if self.head else []), *map(self.lines_of_block, self.blocks)]
         return "\n\n".join("\n".join(part) for part in parts) + "\n"
 
     def lines_of_block(self, block: Block) -> list[str]:
-        """The lines of a script with its cases, or of a table."""
         if block.table is not None:
             return [f"=== {block.name}{TABLE}", *block.table]
         cases = (line for it in block.cases for line in self.lines_of(it, block.name))
@@ -162,7 +156,6 @@ class Group:
         return [*lines, f"--- status {case.status}"]
 
     def lines_of_text(self, text: bytes) -> list[str]:
-        """The lines in which a text is written."""
         return self.spelling.get(text) or spelled(text)
 
     def text_of(self, lines: list[str]) -> bytes:
@@ -182,7 +175,6 @@ class Group:
             self.blocks.append(Block(line, title, self.text_of(lines)))
 
     def write(self) -> None:
-        """Writes its file."""
         self.file.write_text(self.text(), encoding="ascii")
 
 
@@ -192,7 +184,6 @@ def default_name(script_name: str, words: list[str]) -> str:
 
 
 def read(file: Path, name: str) -> Group:
-    """The group in a file."""
     held = file.read_bytes()
     if not PLAIN.fullmatch(held):
         raise CaseError(f"{file}: there are bytes other than printable ASCII, or the last line has no line feed")
@@ -238,7 +229,6 @@ def case_of(group: Group, block: Block, sections: dict[str, list[str]], status: 
 
 
 def without_blanks(lines: list[str]) -> list[str]:
-    """Lines without the empty ones at their end."""
     return "\n".join(lines).rstrip("\n").split("\n") if any(lines) else []
 
 
@@ -268,7 +258,6 @@ def cases_of(name: str) -> list[Case]:
 
 
 def all_cases() -> list[Case]:
-    """All cases, in the order of their groups."""
     return cases_of("")
 
 

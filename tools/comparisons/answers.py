@@ -23,7 +23,6 @@ class Report(NamedTuple):
     status: int
 
     def begins(self, word: str) -> list[str]:
-        """The lines that begin with this word."""
         return [line for line in self.lines if line.startswith(f"{word} ")]
 
     def shown(self) -> str:
@@ -31,7 +30,6 @@ class Report(NamedTuple):
         return f"status {self.status} and {self.lines[:4]}"
 
     def attempts(self) -> int:
-        """How many attempts a run tells of."""
         return len(self.begins("attempt"))
 
     def end(self) -> str:
@@ -59,7 +57,6 @@ class Script:
         return answer_of(self.program, *words, *self.options, script=self.text)
 
     def answer(self, *words: str | int) -> Report:
-        """The report of a command."""
         asked = tuple(map(str, words))
         if asked not in self.known:
             told = self.ask(*asked)
@@ -67,7 +64,6 @@ class Script:
         return self.known[asked]
 
     def run(self, *words: str | int) -> Report:
-        """The report of a run."""
         told = self.answer("run", *words)
         is_run = told.status in (FINE, FOUND, CUT) and "".join(told.lines[-1:]).startswith("steps ")
         self.must(is_run, f"`{spelled('run', *words)}` gives {told.shown()}, which is no run")
@@ -100,5 +96,4 @@ class Script:
 
 
 def spelled(*words: str | int) -> str:
-    """Words as they are typed."""
     return " ".join(map(str, words))

@@ -37,8 +37,6 @@ FAULTS = (Difference, NoAnswer, ValueError, LookupError)
 
 @dataclass(frozen=True)
 class Kind:
-    """A kind of comparison."""
-
     # compares the answers for a script, and gives what comes of it: one outcome or several
     compare: Callable[[Script], list[str]]
     # how many of a hundred made scripts must at least have each outcome, with the pattern of its words
@@ -185,7 +183,6 @@ def compare_scripts(name: str, given: argparse.Namespace, tally: Tally) -> None:
 
 
 def main(words: list[str]) -> int:
-    """Compares the kinds that are named, or all, and prints the totals."""
     parser = parser_of(__doc__)
     parser.add_argument("kinds", nargs="*", metavar="KIND", help=f"one of {', '.join(KINDS)} [default: all]")
     parser.add_argument("--program", type=program_at, metavar="PATH", help="the program, if not that of ./build")

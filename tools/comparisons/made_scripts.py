@@ -103,7 +103,6 @@ SORTS = "one two"
 
 
 def indented(body: list[str]) -> list[str]:
-    """The lines of a body, each as deep as its block."""
     written, depth, opening = [], 1, words_of_roles("If", "Loop")
     for line in body:
         depth -= line == "end"
@@ -113,7 +112,6 @@ def indented(body: list[str]) -> list[str]:
 
 
 def script(number: int, seed: int = SEED, sorts: str = SORTS) -> str:
-    """The script with this number, of parts of these sorts."""
     chance = random.Random(f"{seed} {number}")
     parts = [chance.choice(PARTS[chance.choice(sorts.split())]) for _ in range(chance.choice((1, 2, 3, 3, 4, 5, 6)))]
     wrong = chance.randrange(len(parts)) if chance.random() < 0.75 else None
@@ -131,5 +129,4 @@ def script(number: int, seed: int = SEED, sorts: str = SORTS) -> str:
 
 
 def scripts(count: int = SCRIPTS, seed: int = SEED, sorts: str = SORTS) -> list[str]:
-    """The first so many scripts, of parts of these sorts."""
     return [script(number, seed, sorts) for number in range(count)]

@@ -79,7 +79,6 @@ OUTCOMES = {
 
 
 def compare_lists(script: Script) -> list[str]:
-    """Compares runs by lists of numbers, and gives what comes of them."""
     attempts = script.run().attempts()
     last = min(attempts, MOST)
     runs = [same_run(script, (option, number), rule(number)) for option, rule in RULES.items() for number in range(1, last + 1)]
@@ -118,7 +117,6 @@ def run_of_list(script: Script, numbers: range) -> Report:
 
 
 def compare_moving(script: Script) -> list[str]:
-    """Compares runs in a heap in which each cell that grows moves, and gives what comes of them."""
     last = min(script.run("--moving").attempts(), MOST_MOVED)
     found = {moved_run(script, text) for text in (str(PAST), *map(str, range(1, last + 1)), *LISTS)}
     bad, other, same = "a run that is bad where cells move", "the same run in other places", "the same run, whose cells don't move"
@@ -152,7 +150,6 @@ class Range(NamedTuple):
 
 
 def compare_lengths(script: Script) -> list[str]:
-    """Compares what is told of all lengths with runs in heaps of single ones, and gives what comes of it."""
     told, chance = script.answer("lengths"), random.Random(script.text)
     table, rest = table_of(script, told.lines)
     tried = {length for it in table for length in (it.first, it.last, chance.randint(it.first, it.last))}
@@ -201,7 +198,6 @@ class Cell(NamedTuple):
 
 
 def compare_steps(script: Script) -> list[str]:
-    """Compares the steps of some runs with their reports, and gives what comes of them."""
     attempts = script.run().attempts()
     fails: list[Words] = [("--fail", number) for number in range(2, min(attempts, MOST_FAILED) + 1)]
     told = "\n".join(row for words in ((), ("--every", 2), ("--limit", 300), *fails) for row in compare_rows(script, *words))

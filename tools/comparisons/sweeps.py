@@ -131,7 +131,6 @@ class Swept:
         return self.script.answer("sweep", *self.sweep.flags, *words)
 
     def run(self, numbers: Numbers) -> Report:
-        """The run in which these numbers fail."""
         return self.script.run(*self.sweep.run(numbers))
 
     def compare(self) -> Numbers | None:
@@ -341,7 +340,6 @@ def parts_of(last: int) -> list[tuple[int, int]]:
 
 
 def part_words(first: int, last: int) -> Words:
-    """The options of a part."""
     return ("--from", first) if last == CEILING else ("--from", first, "--to", last)
 
 

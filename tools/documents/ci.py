@@ -25,7 +25,6 @@ OTHERS = {"text": "a report\n", "nothing": "", "another log": f'{{"$schema":"{SC
 
 
 def place_faults(what: str, location: dict[str, Any], uri: str, lines: list[str]) -> Iterator[str]:
-    """What is wrong with a place."""
     physical = location["physicalLocation"]
     if unquote(physical["artifactLocation"]["uri"]) != uri or physical["artifactLocation"]["index"] != 0:
         yield f"{what}: another file"
@@ -37,7 +36,6 @@ def place_faults(what: str, location: dict[str, Any], uri: str, lines: list[str]
 
 
 def result_faults(result: dict[str, Any], rules: list[dict[str, Any]], uri: str, lines: list[str]) -> Iterator[str]:
-    """What is wrong with a result."""
     what, index = result["ruleId"], result["ruleIndex"]
     if not 0 <= index < len(rules) or rules[index]["id"] != what:
         yield f"{what}: another rule"
@@ -56,13 +54,11 @@ def result_faults(result: dict[str, Any], rules: list[dict[str, Any]], uri: str,
 
 
 def line_of(result: dict[str, Any]) -> int:
-    """The line of a result, which has one place."""
     (location,) = result["locations"]
     return int(location["physicalLocation"]["region"]["startLine"])
 
 
 def faults_of(text: str, name: str, lines: list[str], messages: str) -> Iterator[str]:
-    """What is wrong with a log of a script, beside the messages."""
     log = json.loads(text)
     (run,) = log["runs"]
     driver, results = run["tool"]["driver"], run["results"]
@@ -80,8 +76,6 @@ def faults_of(text: str, name: str, lines: list[str], messages: str) -> Iterator
 
 
 class Logs(Trials):
-    """What the program writes into logs, and how much of it was right."""
-
     def check_log(self, *words: Word, name: str, script: str) -> None:
         """A log must be right, and the answer beside it the one without. A script without a name is given on standard input."""
         file, what = self.room / "log.sarif", f"{' '.join(map(str, words))} {name}"
@@ -173,16 +167,12 @@ STEPS: list[tuple[str, str | None, str, int, str, int]] = [
 
 
 class Told(NamedTuple):
-    """What a call of the script ends with."""
-
     lines: list[str]
     explained: str
     status: int
 
 
 class ForCI(Trials):
-    """Calls of the scripts that a gate of a project runs, and how many came to what they must."""
-
     def put(self, name: str, script: str | None = "") -> Path:
         """Writes a script into the folder; an example of its name where there is no text, and none where it goes."""
         file = self.room / "scripts" / name

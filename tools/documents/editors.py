@@ -61,12 +61,10 @@ class Rule(NamedTuple):
 
 
 def has_operands(line: Line) -> bool:
-    """Whether others follow the first word of a line."""
     return bool(line.places or line.keyword or line.rest)
 
 
 def rules() -> dict[Rule, list[str]]:
-    """The rules that a file must have, each with the words that begin its lines."""
     texts = dict(re.findall(r'Keyword::(\w+) => b"(\w+)"', (ROOT / "crates/wb_lines/src/words.rt").read_text(encoding="utf-8")))
     lines = lines_by_kind().values()
     found: dict[Rule, set[str]] = {}
@@ -83,7 +81,6 @@ def rules() -> dict[Rule, list[str]]:
 
 
 def line_of_vim(rule: Rule, words: list[str]) -> str:
-    """The line of the syntax file for a rule."""
     any_of, these = (r"\%({}\)".format(r"\|".join(it)) for it in (words, rule.these))
     if rule.behind is None:
         pattern = r"^\s*\zs" + any_of + r"\ze" + VIM_END[rule.has_operands]
@@ -94,7 +91,6 @@ def line_of_vim(rule: Rule, words: list[str]) -> str:
 
 
 def rule_of_grammar(rule: Rule, words: list[str]) -> dict[str, Any]:
-    """The rule of the grammar for a rule."""
     any_of, colour = f"(?:{'|'.join(words)})", {"name": SCOPES[rule.colour]}
     if rule.behind is None:
         return {"match": rf"^\s*({any_of})" + END[rule.has_operands], "captures": {"1": colour}}
@@ -124,12 +120,10 @@ def compared(texts: dict[Path, str]) -> Iterator[tuple[Path, set[str], set[str]]
 
 
 def read() -> dict[Path, str]:
-    """The files as they are."""
     return {it: it.read_text(encoding="utf-8") for it in (VIM, INDENT, GRAMMAR, CONFIGURATION)}
 
 
 def main(words: list[str]) -> int:
-    """Compares the files, and prints the totals."""
     parser_of(__doc__).parse_args(words)
     tally = Tally()
     for file, wanted, found in compared(read()):

@@ -95,7 +95,6 @@ def help_in(about: str, text: str) -> Help:
 
 
 def of_bash(told: Told) -> Iterator[str]:
-    """The lines for bash, which says nothing of what an option does."""
     names = " ".join(filter(None, told))
     yield f"_workbench_words '{names} --help --version' \"$word\""
     for command, it in told.items():
@@ -110,7 +109,6 @@ def of_bash(told: Told) -> Iterator[str]:
 
 
 def of_zsh(told: Told) -> Iterator[str]:
-    """The lines for zsh."""
     yield from (f"'{command}:{it.about}'" for command, it in told.items() if command)
     for command, it in told.items():
         yield from [f"{command})"] if command else []
@@ -124,7 +122,6 @@ def of_zsh(told: Told) -> Iterator[str]:
 
 
 def of_fish(told: Told) -> Iterator[str]:
-    """All lines for fish, which has no names of values."""
     begin, at_first = f"complete -c {NAME}", f"complete -c {NAME} -n '__fish_use_subcommand'"
     names = " ".join(it for it in told if it not in ("", "help"))
     yield f"{begin} -f"
@@ -191,12 +188,10 @@ def compared(told: Told, texts: dict[Path, str], reports: str) -> Iterator[tuple
 
 
 def read() -> dict[Path, str]:
-    """The files as they are."""
     return {it: it.read_text(encoding="utf-8") for it in (MAN_PAGE, BASH, ZSH, FISH)}
 
 
 def main(words: list[str]) -> int:
-    """Compares the files, and prints the totals."""
     program, tally = program_parser(__doc__).parse_args(words).program, Tally()
     told = help_of(lambda command="": words_of_help(program, command, WIDE))
     for name, wanted, found in compared(told, read(), (DOCS / "REPORTS.md").read_text(encoding="utf-8")):

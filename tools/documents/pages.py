@@ -14,7 +14,7 @@ A block begins with such a comment and ends with `<!-- end -->`; what is between
     <!-- laws crates/wb_runs/src/set_laws.rt -->                          the laws of files, with what is said of each
     <!-- bodies -->  <!-- bodies wb_size/sizing wb_cells/bits -->          wrong bodies: how many each crate has; those of sources, by name
     <!-- crates -->  <!-- dependencies -->                                 a row a crate: what it is and what carries it; what is below it
-    <!-- number wrong-bodies -->1<!-- end -->                              in a sentence; also functions, contracts
+    <!-- number wrong-bodies -->1<!-- end -->                              in a sentence; also open, functions, contracts
 
 Two kinds are only looked at. `<!-- promises -->` is a table whose rows name public calls with clauses of their contracts, as in
 `wb_rheap::Heap::alloc`: `granted`, `short`; a clause without a name is `ensures`. `<!-- measured bench/run -->` is a table with the commit
@@ -24,8 +24,8 @@ and the machine that it was measured on.
 `messages:` what it says on standard error; with `run 1:` the status too. A line `..` stands for any lines. Where the words name no file,
 the script is the fenced block before.
 
-Beside blocks, it fails on a sentence of more than 35 words, on a line of prose of more than 160 columns, on a file, a page or a section
-that is named and isn't there, and where the README has another number of open wrong bodies than there are (unless pages are given)."""
+Beside blocks, it fails on a sentence of more than 35 words, on a line of prose of more than 160 columns, and on a file, a page or a section
+that is named and isn't there."""
 
 import re
 import shlex
@@ -37,8 +37,7 @@ from typing import NamedTuple, NoReturn
 
 from tools.common import ROOT, Tally, answer_of, program_parser
 from tools.crates import FUNCTION_HEAD, Crates
-from tools.edits.seen_code import Definitions, name_of
-from tools.edits.verdicts import fault_of_readme
+from tools.edits.verdicts import number_of_open
 from tools.edits.wrong_body_edits import MUST_FAIL, WRONG_BODIES, WrittenEdit, written_edits
 from tools.worked_cases import case_called
 
@@ -63,7 +62,6 @@ class Function(NamedTuple):
     clauses: dict[str, str]
 
     def has_contract(self) -> bool:
-        """Whether it promises something of its own."""
         return any("ensures" in it for it in (self.signature, *self.clauses.values()))
 
 
@@ -86,7 +84,6 @@ def functions_in(code: str) -> Iterator[Function]:
 
 @cache
 def functions_of(crate: str) -> list[Function]:
-    """The functions of a crate but for its tests."""
     files = sorted((Crates().folder(crate) / "src").rglob("*.rt"))
     return [it for path in files for it in functions_in(path.read_text(encoding="utf-8"))]
 
@@ -101,17 +98,14 @@ def searched() -> dict[tuple[str, str], str]:
 
 
 def without_comments(text: str) -> str:
-    """A text without lines that are comments."""
     return "\n".join(it for it in text.splitlines() if not COMMENT.match(it))
 
 
 def edits(crate: str) -> list[WrittenEdit]:
-    """The wrong bodies of a crate."""
     return written_edits(Crates().folder(crate), [WRONG_BODIES, MUST_FAIL])
 
 
 def quote(words: str) -> str:
-    """Definitions, each with its type and all of its clauses, or contracts of functions, perhaps one clause alone; with the file's name."""
     path, *names = words.split()
     read = contract_in if path.endswith(".rt") else definition_in
     quoted = "\n\n".join(read(text_of(path), it) for it in names)
@@ -119,13 +113,20 @@ def quote(words: str) -> str:
 
 
 def definition_in(text: str, name: str) -> str:
-    """A definition of a file."""
-    found = [it.text for it in Definitions(without_comments(text)).items if name_of(it.text.splitlines()[0]) == name]
-    return found[0] if len(found) == 1 else missing(f"one {name}, but {len(found)}")
+    """A definition with its clauses, which begin with its name alone; lines that are indented or close a bracket go on with what is above."""
+    first = re.compile(rf"((?:(?:abbrev|pub|unfoldable|record|module|data) )*){re.escape(name)}(?![^\s(){{}}\[\],;.])")
+    found, is_part = list[list[str]](), False
+    for line in filter(str.strip, without_comments(text).splitlines()):
+        if line[0] not in " })]":
+            begun = first.match(line)
+            is_part = begun is not None
+            found += [[]] if begun and (begun[1] or not found) else []
+        if is_part:
+            found[-1].append(line)
+    return "\n".join(found[0]) if len(found) == 1 else missing(f"one {name}, but {len(found)}")
 
 
 def contract_in(code: str, path: str) -> str:
-    """The contract of a function, or one clause of it."""
     name, _, clause = path.partition(".")
     found = [it for it in functions_in(code) if name in (it.name, f"{it.of}::{it.name}")]
     clauses = [it for one in found for key, it in one.clauses.items() if clause in ("", key)]
@@ -133,19 +134,16 @@ def contract_in(code: str, path: str) -> str:
 
 
 def file(words: str) -> str:
-    """A file whole, or some lines of it."""
     name, _, lines = words.partition(" ")
     first, _, last = lines.partition("-")
     return fenced("\n".join(text_of(name).rstrip().splitlines()[int(first or 1) - 1 : int(last) if last else None]))
 
 
 def case(place: str) -> str:
-    """The script of a worked case."""
     return fenced(case_called(place).script.decode().rstrip("\n"))
 
 
 def files(pattern: str) -> str:
-    """The files that have a pattern in a line that is no comment, by their crate or folder."""
     found: dict[str, list[str]] = {}
     for (in_, name), text in searched().items():
         if re.search(pattern, text):
@@ -154,13 +152,11 @@ def files(pattern: str) -> str:
 
 
 def laws(words: str) -> str:
-    """The laws of files, each with the first sentence that is said of it."""
     found = [it for name in words.split() for it in functions_in(text_of(name)) if it.has_contract()]
     return table("Law | What it says", ((f"`{it.name}`", first_sentence(it.about)) for it in found))
 
 
 def bodies(words: str) -> str:
-    """The wrong bodies of some sources by the functions that they change; or how many there are of each crate."""
     if not words:
         return table("Crate | Wrong bodies", ((f"`{it}`", str(len(edits(it)))) for it in Crates().lines if edits(it)))
     found: dict[str, list[str]] = {}
@@ -172,18 +168,15 @@ def bodies(words: str) -> str:
 
 
 def dependencies(words: str) -> str:
-    """Each crate in the order of crates.txt, which is that of a run: what it is, and what it depends on."""
     below = ((it, line.partition(":")[2].split()) for it, line in Crates().lines.items())
     return table("Crate | What it is | Depends on", ((f"`{it}`", about(it), code_names(names) or "nothing") for it, names in below))
 
 
 def proved_crates() -> list[str]:
-    """The crates but for those of tests and of measurements."""
     return [it for it in Crates().lines if not it.endswith("_tests") and not it.startswith("bench")]
 
 
 def crates(words: str) -> str:
-    """Each crate of the program: what it is, the calls that the table of promises names of it, and how many functions have no contract."""
     rows, promised = [], PROMISE.findall(text_of("docs/VERIFICATION.md"))
     for crate in proved_crates():
         calls = dict.fromkeys(f"{of}{name}" for it, of, name, _ in promised if it == crate)
@@ -193,10 +186,13 @@ def crates(words: str) -> str:
 
 
 def number(words: str) -> str:
-    """How many there are of something."""
-    functions = [it.has_contract() for crate in proved_crates() for it in functions_of(crate)]
-    found = {"functions": len(functions), "contracts": sum(functions), "wrong-bodies": sum(len(edits(it)) for it in Crates().lines)}
-    return str(found[words] if words in found else missing(f"number of {words}"))
+    found: dict[str, Callable[[], int]] = {
+        "functions": lambda: sum(len(functions_of(it)) for it in proved_crates()),
+        "contracts": lambda: sum(one.has_contract() for it in proved_crates() for one in functions_of(it)),
+        "wrong-bodies": lambda: sum(len(edits(it)) for it in Crates().lines),
+        "open": number_of_open,
+    }
+    return str(found[words]() if words in found else missing(f"number of {words}"))
 
 
 BLOCKS: list[Callable[[str], str]] = [quote, file, case, files, laws, bodies, dependencies, crates, number]
@@ -227,23 +223,19 @@ def first_sentence(text: str) -> str:
 
 
 def code_names(names: Iterable[str]) -> str:
-    """Some names in the code type."""
     return ", ".join(f"`{it}`" for it in names)
 
 
 def table(head: str, rows: Iterable[Iterable[str]]) -> str:
-    """A table."""
     lines = [head, " | ".join("---" for _ in head.split(" | ")), *(" | ".join(it) for it in rows)]
     return "\n".join(["", *(f"| {it} |" for it in lines), ""])
 
 
 def fenced(text: str) -> str:
-    """Text as a block of code."""
     return f"\n```\n{text}\n```\n"
 
 
 def text_of(name: str) -> str:
-    """The text of a file of the repository."""
     return (ROOT / name).read_text(encoding="utf-8") if (ROOT / name).is_file() else missing(name)
 
 
@@ -276,7 +268,6 @@ TITLE = re.compile(r"^#+ (.*)$", re.MULTILINE)
 
 
 def pages() -> list[Path]:
-    """All pages of the repository."""
     return sorted(page for folder in FOLDERS for page in (ROOT / folder).glob("*.md"))
 
 
@@ -345,7 +336,6 @@ def faults_of(page: Path, text: str) -> Iterator[str]:
 
 
 def main(words: list[str]) -> int:
-    """Compares or writes the pages, and says what is wrong."""
     parser = program_parser(__doc__)
     parser.add_argument("--write", action="store_true", help="write what is generated anew")
     parser.add_argument("--runs", action="store_true", help="compare the examples of reports alone, with what the program answers")
@@ -361,7 +351,4 @@ def main(words: list[str]) -> int:
             faults.append("its blocks aren't what the sources give: ./tools/dev pages --write")
         faults += [] if given.runs else faults_of(page, made)
         tally.check(not faults, "\n".join(f"{page}: {it}" for it in faults))
-    if not given.pages and not given.runs:
-        fault = fault_of_readme()
-        tally.check(not fault, fault)
     return tally.end()

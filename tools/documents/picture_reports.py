@@ -65,12 +65,10 @@ class Shape(NamedTuple):
     bottom: int
 
     def is_cell(self) -> bool:
-        """Whether it is the rectangle of a cell."""
         return self.title.startswith("rect ") and self.style.split()[0] in ("cell", "thin")
 
 
 def shape_of(element: ET.Element) -> Shape | None:
-    """An element as a shape, if it has a title."""
     title = element.findtext(f"{SVG}title")
     if title is None:
         return None
@@ -93,7 +91,6 @@ class Panel:
         return [(it, found) for it in self.shapes if (found := re.match(pattern, it.title))]
 
     def titles(self, pattern: str) -> list[str]:
-        """What of the titles of shapes has a pattern."""
         return [found[0] for _, found in self.titled(pattern)]
 
     @cached_property
@@ -124,14 +121,11 @@ class Panel:
 
 
 class Picture:
-    """A picture that the program drew."""
-
     def __init__(self, text: str) -> None:
         self.text = text
         self.root = ET.fromstring(text)
 
     def shapes(self) -> list[Shape]:
-        """All of its shapes."""
         return [it for it in map(shape_of, self.root) if it]
 
     def is_plain(self) -> bool:
@@ -201,7 +195,6 @@ def options_of(heading: str) -> list[str] | None:
 
 
 def compared(what: str, drawn: list[str], told: list[str]) -> Iterator[str]:
-    """That two lists differ which must be the same."""
     if drawn != told:
         yield f"{what} are {drawn}, and the report has {told}"
 
@@ -254,7 +247,6 @@ def misplaced_cells(panel: Panel, first: int, steps: int) -> Iterator[str]:
 
 
 def seen_in(panels: list[Panel]) -> set[str]:
-    """What a legend must name."""
     names = {"places drawn shorter"} if any(it.folds for it in panels) else set()
     for panel in panels:
         names |= {"leak" if it[1] else it[3] or KINDS[it[2]] for _, it in panel.titled(SEEN)}

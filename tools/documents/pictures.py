@@ -80,7 +80,6 @@ COLUMNS = (
 
 
 def bound_files() -> None:
-    """Leaves no file of this process room for a picture."""
     signal.signal(signal.SIGXFSZ, signal.SIG_IGN)
     resource.setrlimit(resource.RLIMIT_FSIZE, (1000, 1000))
 
@@ -95,7 +94,6 @@ class Pictures(Trials):
         self.plain = self.run("run", self.script)
 
     def drawn(self, file: str | Path, **how: Any) -> Answer:
-        """What it answers where it is to put the picture of the script into a file."""
         return self.run("run", "--picture", file, *([] if "stdin" in how else [self.script]), **how)
 
     def refused(self, name: str | Path, why: str) -> Answer:
@@ -252,7 +250,6 @@ class Pictures(Trials):
 
 
 def main(words: list[str]) -> int:
-    """Makes all checks, and prints the totals."""
     parser = program_parser(__doc__)
     parser.add_argument("--write", action="store_true", help="write the pictures of the examples anew")
     given = parser.parse_args(words)

@@ -57,11 +57,9 @@ class Checks:
         self.end = time.monotonic() + seconds
 
     def stop(self) -> None:
-        """Has the time be over."""
         self.end = -math.inf
 
     def are_over(self) -> bool:
-        """Whether the time is over."""
         return time.monotonic() >= self.end
 
     def run(self, words: list[str], folder: Path, log: IO[str]) -> None:
@@ -91,7 +89,6 @@ def end_session(leader: int) -> None:
 
 
 def session_of(process: int) -> int | None:
-    """The session of a process; none if it has ended."""
     # one that ends meanwhile can't be read
     with suppress(OSError):
         # its name, in brackets, may hold anything
@@ -121,7 +118,6 @@ def is_disproof(text: str) -> bool:
 
 
 def read_verdict(text: str) -> Verdict:
-    """Reads what a check printed."""
     functions: dict[str, Said] = {}
     # where a function has an error in a proof file of its own
     errors: dict[str, str] = {}
@@ -190,8 +186,6 @@ ANSWERS = {"Answers.antt", "Invariants.antt"}
 
 
 class Batch(NamedTuple):
-    """Wrong bodies of a crate that are tried together."""
-
     crate: str
     edits: list[Edit]
 
@@ -250,7 +244,6 @@ class Trial:
             self.settle(crate)
 
     def check(self, room: Path, crate: str, edits: list[Edit], jobs: int) -> Verdict:
-        """Checks the crate with these edits."""
         copy = room / "crates" / crate
         for part in ("src", "proofs"):
             shutil.rmtree(copy / part, ignore_errors=True)
@@ -341,7 +334,6 @@ def can_be_renamed(function: str, crate: Path, proofs: dict[Path, str]) -> bool:
 
 
 def add_proof_files(edit: Edit, crate: Path) -> None:
-    """Gives a twin the proof files of its function."""
     source = proof_folder(crate, edit.twin_of)
     if not edit.twin_of or not source.is_dir():
         return
@@ -354,12 +346,10 @@ def add_proof_files(edit: Edit, crate: Path) -> None:
 
 
 def proof_folder(crate: Path, function: str) -> Path:
-    """Where a function's proof files stand, if it has some."""
     return crate.joinpath("proofs", *function.split("::")[1:])
 
 
 def generated_path(crate: Path, function: str) -> str:
-    """The path of the modules that are generated for a function's proof."""
     return ".".join(["Rattle", crate.name, "proofs", *function.split("::")[1:]])
 
 

@@ -1,13 +1,12 @@
 """Which wrong bodies were disproved, by a committed file that has a line for each source of a crate that has some.
 
 What the prover says of a wrong body follows from what a check of its function reads: the toolchain, the wrong body, the source that it is
-in, and what that source leads to, in its own crate and in those below. Of other sources of the crate that is what the source calls of
-them, without bodies. A line holds the checksum of these, so it is valid only while all of them are the same. Of the toolchain its logic
-counts: kits of one logic prove the same statements, so a line is valid in each of them. Of the wrong bodies their names and texts count,
-and not which file each is in: so one can be moved.
+in with the proofs of its functions, and what this sees of the crate and of those below: definitions, lemmas, and code without bodies. A
+line holds the checksum of these, so it is valid only while all of them are the same. Of the toolchain its logic counts: kits of one logic
+prove the same statements, so a line is valid in each of them. Of the wrong bodies their names and texts count, and not which file each is
+in: so one can be moved.
 
-A source is open if it has no such line, or an edit that is none. The README says how many wrong bodies are open, by the toolchain that it
-names."""
+A source is open if it has no such line, or an edit that is none."""
 
 import hashlib
 import re
@@ -18,26 +17,23 @@ from pathlib import Path
 from typing import NamedTuple
 
 from tools.common import ROOT
-from tools.crates import FUNCTION_HEAD, Crates, kit_of_readme
-from tools.edits.reached import Reached, Source
-from tools.edits.wrong_body_edits import WRONG_BODIES, WrittenEdit, read_edits, written_edits
+from tools.crates import Crates, kit_of_readme
+from tools.edits.wrong_body_edits import HEAD, WRONG_BODIES, WrittenEdit, functions_in, read_edits, written_edits
 
 FILE = "wrong-bodies.txt"
-HEAD = """\
+ABOUT = """\
 # Written by `./tools/dev wrong-bodies`: the sources whose wrong bodies were all disproved, each after its crate, how many there are, when
 # that was, and the checksum of what it followed from. A line whose checksum is another's is no verdict any more.
 """
 LINE = re.compile(r"(\w+/[\w/]*) (\d+) (\d{4}-\d\d-\d\d) ([0-9a-f]{64})")
-# how a function begins, with its name
-FUNCTION_NAME = re.compile(rf"(?m)^{FUNCTION_HEAD}(\w+)")
-# how a function is compiled
+# how the functions of a file are proved, or one is, and how it is compiled
+HOW = re.compile(r"\s*#!?\[(?:tactic\(.*\)|inline(?:\(\w+\))?|cold)\]")
 COMPILED = re.compile(r"\s*#\[(?:inline(?:\(\w+\))?|cold)\]")
-# a line that names a module
-NAMES_MODULE = re.compile(r"\s*(?:pub(?:\(crate\))? )?mod \w+;?")
+COMMENT = re.compile(r"\s*(?://|--)")
+# the proofs of one function, in a folder of its name: nothing else reads them
+OF_ONE = {"Answers.antt", "Invariants.antt", "Proof.antt"}
 # what `rt version` says of the logic
 LOGIC = re.compile(r"\blogic [0-9a-f]+")
-# how many wrong bodies the README calls open
-SAID = re.compile(r"At present (?:no wrong body is|1 wrong body is|[1-9]\d* wrong bodies are) open")
 
 
 def logic_in(said: str) -> str:
@@ -70,7 +66,6 @@ class Verdicts:
 
     def __init__(self, root: Path, logic: str) -> None:
         self.crates = Crates(root)
-        self.reached = Reached(self.crates)
         self.logic = logic
         self.file = root / FILE
 
@@ -104,7 +99,6 @@ class Verdicts:
         ]
 
     def open_in(self, crates: Iterable[str]) -> "list[OpenSource]":
-        """The open sources of these crates, the oldest first."""
         days = {name: it.day for name, it in self.read().items()}
         found = ((crate, it, len(self.sources(crate)[it])) for crate in crates for it in self.open_sources(crate))
         return sorted(OpenSource(days.get(f"{crate}/{source}", ""), crate, source, count) for crate, source, count in found)
@@ -116,81 +110,71 @@ class Verdicts:
         for name, checksum in ((f"{crate}/{source}", checksum) for source, checksum in checksums.items()):
             verdicts[name] = Verdict(count[name], date.today().isoformat(), checksum)
         lines = (f"{name} {it.count} {it.day} {it.checksum}\n" for name, it in sorted(verdicts.items()))
-        self.file.write_text(HEAD + "".join(lines), encoding="utf-8")
+        self.file.write_text(ABOUT + "".join(lines), encoding="utf-8")
 
     @cache
     def checksum(self, crate: str, source: str) -> str:
         """The checksum of all that a check of the source's wrong bodies reads."""
         edits = self.sources(crate).get(source, [])
-        own = self.own_sources(crate, edits)
-        seen = self.reached.seen(crate, own.keys())
-        whole = hashlib.sha256(f"{self.logic}\n{self.crates.lines[crate]}\n".encode())
-        parts: list[object] = [(self.name(it), text_of(own[it])) for it in sorted(own)]
+        parts: list[object] = [self.logic, self.crates.lines[crate], *map(self.seen, [*self.crates.below(crate), crate])]
+        parts += [(self.name(it), whole(it)) for it in self.own_files(crate, edits)]
         parts += [(it.name, it.functions, it.changes, it.fault) for it in edits]
-        for it in sorted(seen):
-            # but for lines that only name a module, since those that count are read themselves
-            text = "\n".join(line for line in seen[it].splitlines() if not NAMES_MODULE.fullmatch(line))
-            parts += [(self.name(it), text)] if text else []
-        for part in parts:
-            whole.update(repr(part).encode())
-        return whole.hexdigest()
+        return hashlib.sha256("\n".join(map(repr, parts)).encode()).hexdigest()
+
+    @cache
+    def seen(self, crate: str) -> str:
+        """The checksum of what a check of a function sees of a crate, but for what the function's own source has."""
+        files = (it for it in self.crates.files(crate) if it.name not in OF_ONE)
+        return hashlib.sha256("\n".join(f"{self.name(it)}\n{without_bodies(it)}" for it in files).encode()).hexdigest()
 
     def name(self, file: Path) -> str:
-        """The name of a file in the repository."""
         return file.relative_to(self.crates.root).as_posix()
 
-    def own_sources(self, crate: str, edits: list[WrittenEdit]) -> dict[Path, Source]:
+    def own_files(self, crate: str, edits: list[WrittenEdit]) -> list[Path]:
         """The files of a crate that count whole for wrong bodies: those that they change, those that have a function of a name that must be
         disproved, where no changed file has it, and the proofs of functions of all these."""
-        sources = {it.file: it for it in self.reached.parts(crate).sources.values()}
         functions = self.functions(crate)
         own = {file for it in edits for name, _, _ in it.changes if (file := self.crates.folder(crate) / name) in functions}
         named = {path.rpartition("::")[2] for it in edits for path in it.functions.split(", ")}
         elsewhere = named - set().union(*(functions[it] for it in own))
         own |= {file for file, names in functions.items() if not names.isdisjoint(elsewhere)}
         proved = set().union(*(functions[it] for it in own))
-        proofs = self.crates.folder(crate) / "proofs"
-        return {file: it for file, it in sources.items() if file in own or file.parent.name in proved and proofs in file.parents}
+        return [it for it in self.crates.files(crate) if it in own or it.name in OF_ONE and it.parent.name in proved]
 
     @cache
     def functions(self, crate: str) -> dict[Path, set[str]]:
         """The names of the functions of a crate's files with code."""
-        code = (it for it in self.reached.parts(crate).sources.values() if it.is_code)
-        return {it.file: {name for _, name in FUNCTION_NAME.findall(it.whole)} for it in code}
+        return {it: {found[2] for found in map(HEAD.match, lines_of(it)) if found} for it in self.crates.files(crate) if it.suffix == ".rt"}
 
 
-def text_of(source: Source) -> str:
+def lines_of(file: Path) -> list[str]:
+    """The lines of code or definitions that are no comments."""
+    return [it for it in file.read_text(encoding="utf-8").splitlines() if not COMMENT.match(it)]
+
+
+def whole(file: Path) -> str:
     """What a check reads of a file; where a line of code ends is layout."""
-    lines = source.text.splitlines()
-    return " ".join(it.strip() for it in lines if not COMPILED.fullmatch(it)) if source.is_code else source.text
+    lines = lines_of(file)
+    return " ".join(it.strip() for it in lines if not COMPILED.fullmatch(it)) if file.suffix == ".rt" else "\n".join(lines)
+
+
+def without_bodies(file: Path) -> str:
+    """What is seen of a file elsewhere: of code neither bodies, nor how functions are proved and compiled."""
+    lines = lines_of(file)
+    inside = {at for _, _, body in functions_in(lines) for at in body} if file.suffix == ".rt" else set()
+    return "\n".join(it for at, it in enumerate(lines) if at not in inside and not HOW.fullmatch(it))
 
 
 def list_of(found: list[OpenSource]) -> str:
     """How many wrong bodies are open, and of which sources, one in a line."""
-    if not found:
-        return "open: no wrong body"
+    count = sum(it.count for it in found)
     said = ((it, f"last disproved on {it.day}" if it.day else "never disproved") for it in found)
-    head = f"open: {number_of(found)} of {len(found)} source{'s' if len(found) > 1 else ''}"
+    of_sources = f" of {len(found)} source{'s' if len(found) > 1 else ''}" if found else ""
+    head = f"open: {count or 'no'} wrong {'bodies' if count > 1 else 'body'}{of_sources}"
     return "\n".join([head, *(f"  {it.crate}/{it.source}: {it.count}, {when}" for it, when in said)])
 
 
-def number_of(found: list[OpenSource]) -> str:
-    """How many wrong bodies are open, in words."""
-    count = sum(it.count for it in found)
-    return f"{count or 'no'} wrong {'bodies' if count > 1 else 'body'}"
-
-
-def fault_of_number(readme: str, found: list[OpenSource]) -> str:
-    """What is wrong with the number of open wrong bodies in the README, if something is."""
-    number, said = number_of(found), SAID.findall(" ".join(readme.split()))
-    wanted = f"At present {number} {'are' if number.endswith('bodies') else 'is'} open"
-    if said == [wanted]:
-        return ""
-    return f"README.md says {' and '.join(f'`{it}`' for it in said) or 'nothing of open wrong bodies'}: `{wanted}` belongs there once"
-
-
-def fault_of_readme() -> str:
-    """The same of the repository's own README, by the toolchain that it names, whichever is here."""
-    readme = (ROOT / "README.md").read_text(encoding="utf-8")
-    verdicts = Verdicts(ROOT, logic_in(kit_of_readme(readme)))
-    return fault_of_number(readme, verdicts.open_in(verdicts.crates.lines))
+def number_of_open() -> int:
+    """How many wrong bodies of this repository are open, by the toolchain that its README names, whichever is here."""
+    verdicts = Verdicts(ROOT, logic_in(kit_of_readme((ROOT / "README.md").read_text(encoding="utf-8"))))
+    return sum(it.count for it in verdicts.open_in(verdicts.crates.lines))

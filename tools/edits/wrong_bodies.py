@@ -1,9 +1,9 @@
 """Tries the crates' wrong bodies in batches: the prover must disprove each for its own sake.
 
-A file `crates/NAME/wrong-bodies/SOURCE.edits` has the wrong bodies of `src/SOURCE.rt`. Each has a line `[NAME]`, a name of its
-own in the crate; a line `function: PATH`, the function that must be disproved, as a check names it, or `function: PATH, PATH`
-where each of several must, or `function: every clause of PATH`; and pairs of lines `old: TEXT`, `new: TEXT`, where the old
-text stands once in the file. Below a line `file: src/..` the texts are of that file.
+The files `crates/NAME/wrong-bodies/*.edits` have a line `=== src/SOURCE.rt` above the wrong bodies of each source. Each of these has a line
+`[NAME]`, a name of its own in the crate; a line `function: PATH`, the function that must be disproved, as a check names it, or
+`function: PATH, PATH` where each of several must, or `function: every clause of PATH`; and pairs of lines `old: TEXT`, `new: TEXT`, where
+the old text stands once in the source. Below a line `file: src/..` the texts are of that file.
 
 A function's proof reads the contracts of what it calls, and not the bodies; so one check of a copy of
 the crate judges one wrong body each of many functions, and says of each function whether its own proof stands or only
@@ -16,7 +16,7 @@ Where a source's wrong bodies are all disproved, its line is written. `--only` t
 
 `--minutes N` tries for so long by the clock, a few edits of one source at a time, the oldest source first and by turns some of those that
 are picked. A check that is running then is ended, and its edits count neither as passed nor as failed. What stays open is listed.
-`--open` lists what is open, the oldest first, and tries nothing; it fails where the README has another number.
+`--open` lists what is open, the oldest first, and tries nothing.
 
 It prints a line for each edit. The repository's other files stay as they are. `--must-fail` tries the edits of
 `crates/NAME/must-fail/` as well, and `--logs` keeps what the checks printed. `--after-ci` takes the libraries that
@@ -38,9 +38,9 @@ from types import FrameType
 
 from tools.build import Build, Unproved
 from tools.common import ROOT, Tally, parser_of
-from tools.crates import Crates, Step, kit_of_readme, processors, run_steps, version
+from tools.crates import Crates, Step, processors, run_steps, version
 from tools.edits.trial import LIBRARY, Batch, Checks, Trial
-from tools.edits.verdicts import OpenSource, Verdicts, fault_of_number, list_of, logic_in
+from tools.edits.verdicts import OpenSource, Verdicts, list_of, logic_in
 from tools.edits.wrong_body_edits import MUST_FAIL, WRONG_BODIES, Edit, read_edits, written_edits
 
 # of how many crates some are tried whose line stands, and how many edits of each at most: the largest crates take an hour as a whole
@@ -75,11 +75,9 @@ class Choice:
             self.sample[crate] = random.Random(f"{seed} {crate}").sample(known, count)
 
     def labels(self, crate: str, source: str) -> list[str]:
-        """The labels of a source's wrong bodies."""
         return [f"{crate}/{it.name}" for it in self.verdicts.sources(crate)[source]]
 
     def whole_batches(self) -> list[Batch]:
-        """One batch for each crate."""
         return [Batch(crate, [*edits, *self.sample[crate]]) for crate, edits in self.edits.items()]
 
     def small_batches(self, opened: list[OpenSource]) -> list[Batch]:
@@ -111,7 +109,6 @@ def choose(verdicts: Verdicts, crates: list[str], opened: list[OpenSource], kind
 
 
 def words_parser() -> argparse.ArgumentParser:
-    """The words of the command line."""
     parser = parser_of(__doc__)
     parser.add_argument("--jobs", type=int, default=processors(), metavar="N", help="how many processors to use")
     parser.add_argument("--must-fail", action="store_true", help="try the edits of must-fail/ as well")
@@ -136,17 +133,6 @@ def fault_of(given: argparse.Namespace, crates: Crates, kinds: list[str]) -> str
         return "--minutes and --open are about all that is open, and go with no crate, --all or --must-fail"
     names = {it.name for crate in given.crates for it in written_edits(crates.folder(crate), kinds)}
     return next((f"{given.crates[0]} has no edit {it}" for it in given.only if it not in names), "")
-
-
-def is_number_of_readme(verdicts: Verdicts, found: list[OpenSource]) -> bool:
-    """Whether the README has the number of what is open, as far as it names the toolchain here. Says what is wrong."""
-    readme = (verdicts.crates.root / "README.md").read_text(encoding="utf-8")
-    if logic_in(kit_of_readme(readme)) != verdicts.logic:
-        print("README.md names another toolchain, by which another number may be open")
-        return True
-    fault = fault_of_number(readme, found)
-    print(fault, end="\n" if fault else "")
-    return not fault
 
 
 def run_trial(given: argparse.Namespace, choice: Choice, opened: list[OpenSource], folder: Path) -> Tally:
@@ -176,8 +162,7 @@ def run_trial(given: argparse.Namespace, choice: Choice, opened: list[OpenSource
         still = [it for it in opened if it.source in trial.unsettled[it.crate]]
         print(list_of(still))
         if len(still) < len(opened):
-            # the lines that were written are to be committed with it
-            is_number_of_readme(verdicts, still)
+            print("the lines that were written are to be committed, with the number in the README: ./tools/dev pages --write")
     return trial.tally
 
 
@@ -202,7 +187,6 @@ def run_until_stopped(steps: list[Step], lanes: int, checks: Checks) -> None:
 
 
 def main(words: list[str]) -> int:
-    """Tries the wrong bodies of the crates named, or of those that have to be tried."""
     parser, crates = words_parser(), Crates(ROOT)
     given = parser.parse_args(words)
     # with --only an edit's name says enough
@@ -211,9 +195,8 @@ def main(words: list[str]) -> int:
         parser.error(fault)
     verdicts = Verdicts(ROOT, logic_in(version()))
     if given.open:
-        found = verdicts.open_in(verdicts.crates.lines)
-        print(list_of(found))
-        return int(not is_number_of_readme(verdicts, found))
+        print(list_of(verdicts.open_in(verdicts.crates.lines)))
+        return 0
     names = [it for it in given.crates or crates.lines if any((crates.folder(it) / kind).is_dir() for kind in kinds)]
     if given.crates or given.all:
         opened: list[OpenSource] = []

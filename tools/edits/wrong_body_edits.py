@@ -6,7 +6,6 @@ import re
 from collections import Counter
 from collections.abc import Iterator
 from dataclasses import dataclass, replace
-from itertools import pairwise
 from pathlib import Path
 from typing import NamedTuple
 
@@ -16,7 +15,11 @@ from tools.crates import FUNCTION_HEAD
 WRONG_BODIES, MUST_FAIL = "wrong-bodies", "must-fail"
 ENDINGS = {WRONG_BODIES: ".edits", MUST_FAIL: ".edit"}
 
-NAME = re.compile(r"\[([a-z0-9]+(?:-[a-z0-9]+)*)\]")
+# the lines above the edits of a source, and above each edit
+SOURCE = re.compile(r"^=== (src/\S+)$", re.MULTILINE)
+NAME = re.compile(r"^\[([a-z0-9]+(?:-[a-z0-9]+)*)\]$", re.MULTILINE)
+# how a function begins, with its name
+HEAD = re.compile(rf"{FUNCTION_HEAD}(\w+)")
 FUNCTIONS = "function: "
 EVERY_CLAUSE = "every clause of "
 
@@ -27,8 +30,6 @@ class BadEdit(Exception):
 
 @dataclass(frozen=True)
 class WrittenEdit:
-    """An edit as it is written."""
-
     name: str
     # the functions that must be disproved, as its line names them
     functions: str
@@ -76,22 +77,26 @@ def written_edits(crate: Path, folders: list[str]) -> list[WrittenEdit]:
 def edits_in(folder: Path) -> Iterator[WrittenEdit]:
     """The edits of a folder; a file that holds none has a fault by its own name."""
     for path in sorted(it for it in folder.rglob("*") if not it.is_dir()):
-        place, ending = path.relative_to(folder), ENDINGS[folder.name]
-        lines = path.read_text(encoding="utf-8", errors="replace").splitlines()
+        place, ending = path.relative_to(folder).as_posix(), ENDINGS[folder.name]
+        text = path.read_text(encoding="utf-8", errors="replace")
         if path.suffix != ending:
-            yield WrittenEdit(place.as_posix(), "", fault=f"its name doesn't end in {ending}")
+            yield WrittenEdit(place, "", fault=f"its name doesn't end in {ending}")
         elif folder.name == MUST_FAIL:
-            yield written_edit(path.stem, lines, "")
+            yield written_edit(path.stem, text, "")
         else:
-            starts = [at for at, line in enumerate(lines) if NAME.fullmatch(line)]
-            if not starts or any(it.strip() for it in lines[: starts[0]]):
-                yield WrittenEdit(place.as_posix(), "", fault="it doesn't begin with a name in brackets")
-            source = f"src/{place.with_suffix('.rt').as_posix()}"
-            yield from (written_edit(lines[at][1:-1], lines[at + 1 : end], source) for at, end in pairwise([*starts, len(lines)]))
+            above, *parts = SOURCE.split(text)
+            if above.strip() or not parts:
+                yield WrittenEdit(place, "", fault="it doesn't begin with a source, as in === src/lib.rt")
+            for source, part in zip(parts[::2], parts[1::2], strict=True):
+                above, *edits = NAME.split(part)
+                if above.strip() or not edits:
+                    yield WrittenEdit(place, "", fault=f"below {source} it doesn't begin with a name in brackets")
+                yield from (written_edit(name, it, source) for name, it in zip(edits[::2], edits[1::2], strict=True))
 
 
-def written_edit(name: str, lines: list[str], source: str) -> WrittenEdit:
-    """The edit of that name which these lines say, of that source file where they name no other."""
+def written_edit(name: str, text: str, source: str) -> WrittenEdit:
+    """The edit of that name which this text says, of that source where it names no other."""
+    lines = text.removeprefix("\n").splitlines()
     functions = lines[0] if lines else ""
     try:
         if not functions.startswith(FUNCTIONS):
@@ -133,7 +138,6 @@ def read_edits(crate: Path, folders: list[str]) -> tuple[list[Edit], dict[str, s
 
 
 def applied(edit: WrittenEdit, label: str, crate: Path) -> Edit:
-    """An edit, applied to the crate's files as they are."""
     if edit.fault:
         raise BadEdit(edit.fault)
     function, *others = edit.functions.removeprefix(EVERY_CLAUSE).split(", ")
@@ -173,25 +177,26 @@ def clauses_of(function: str, crate: Path) -> frozenset[str]:
 def wrong_body(name: str, file: str, before: str, after: str) -> WrongBody | None:
     """The function of that name with its wrong body, if nothing but that body was changed."""
     lines = before.splitlines(keepends=True)
-    for whole, body in functions_of(name, lines):
+    for other, whole, body in functions_in(lines):
         head, end = "".join(lines[: body.start]), "".join(lines[body.stop :])
-        if after.startswith(head) and after.endswith(end) and len(after) >= len(head) + len(end):
+        if other == name and after.startswith(head) and after.endswith(end) and len(after) >= len(head) + len(end):
             stop = len(after) - len("".join(lines[whole.stop :]))
             return WrongBody(file, whole, after[len("".join(lines[: whole.start])) : stop])
     return None
 
 
-def functions_of(name: str, lines: list[str]) -> Iterator[tuple[range, range]]:
-    """The lines of each function of that name with what stands right above it, by the layout that `rt fmt` gives, and of its body."""
+def functions_in(lines: list[str]) -> Iterator[tuple[str, range, range]]:
+    """Each function that has a body of some lines, by the layout that `rt fmt` gives: its name, its lines with those right above it, and
+    those of its body."""
     for at, line in enumerate(lines):
-        head = re.match(rf"{FUNCTION_HEAD}{re.escape(name)}\b", line)
-        if not head:
+        if not (head := HEAD.match(line)):
             continue
-        open_at = next((to for to in range(at, len(lines)) if re.match(rf"{head[1]}\S.*\{{$|{head[1]}\{{$", lines[to].rstrip())), None)
-        end = next((to for to in range(at, len(lines)) if lines[to].rstrip() == f"{head[1]}}}"), None)
-        if open_at is not None and end is not None and open_at < end:
+        last = re.compile(rf"{head[1]}(?:\S.*)?[{{}};]\s*")
+        opens = next((to for to in range(at, len(lines)) if last.fullmatch(lines[to])), at)
+        end = next((to for to in range(opens, len(lines)) if lines[to].rstrip() == f"{head[1]}}}"), None)
+        if end is not None and lines[opens].rstrip().endswith("{"):
             above = next((to for to in range(at, 0, -1) if not lines[to - 1].strip() or lines[to - 1].rstrip()[-1] in "{}"), 0)
-            yield range(above, end + 1), range(open_at + 1, end)
+            yield head[2], range(above, end + 1), range(opens + 1, end)
 
 
 def edited_files(edits: list[Edit], crate: Path) -> dict[str, str]:

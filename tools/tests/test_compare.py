@@ -76,13 +76,11 @@ SCRIPTS: dict[Ends, dict[str, str]] = {
 
 
 def options_in(words: Words) -> dict[str, str]:
-    """The options among words, each with the word behind it."""
     return {it: other for it, other in pairwise((*words, "")) if it.startswith("--")}
 
 
 @cache
 def run_of(ends: Ends, words: Words) -> Report:
-    """A run under some options."""
     options = options_in(words)
     listed = [int(it) for it in options.get("--set", "").split(",") if it]
     listed += [int(options[it]) for it in ("--fail", "--also") if it in options]
@@ -113,7 +111,6 @@ def heaps_of(ends: Ends) -> Report:
 
 @cache
 def sets_of(ends: Ends, most: int) -> list[Numbers]:
-    """All sets of so many attempts that runs make where the others fail, in their order."""
     sets = (it for many in range(most + 1) for it in combinations(range(1, GREATEST + 1), many))
     return [it for it in sets if not it or it[-1] <= run_of(ends, ("run", "--set", ",".join(map(str, it[:-1])))).attempts()]
 
@@ -145,11 +142,9 @@ class ModelScript(Script):
         self.objects: dict[Words, Report] = {}
 
     def told(self, words: Words) -> Report:
-        """What the program answers."""
         return self.lie[1] if self.lie and words == self.lie[0] else self.right(words)
 
     def right(self, words: Words) -> Report:
-        """What a right program answers."""
         match words[:1]:
             case _ if "--json" in words:
                 return self.objects[words]
@@ -238,8 +233,6 @@ def lies_of(kind: str, ends: Ends) -> Iterator[tuple[Words, Report]]:
 
 
 class WhatIsSeen(unittest.TestCase):
-    """Which answers agree, and which don't."""
-
     def assert_seen(self, kind: str, ends: Ends, *lie: tuple[Words, Report]) -> None:
         """A kind must see that this answer isn't right."""
         with self.subTest(kind=kind, ends=ends, lie=lie), self.assertRaises(FAULTS):
@@ -289,8 +282,6 @@ class WhatIsSeen(unittest.TestCase):
 
 
 class WhatIsTried(unittest.TestCase):
-    """Which numbers are tried, when a program shows too little, and which scripts are made."""
-
     def test_sets_in_their_order(self) -> None:
         swept = Swept(FAILURES, ModelScript(NONE))
         tried = list(swept.to_try((2, 4, 5)))

@@ -27,8 +27,6 @@ CODE = re.compile(r"`([^`]*)`")
 
 
 class Lines(unittest.TestCase):
-    """What is read."""
-
     def test_some_lines(self) -> None:
         kinds = lines_by_kind()
         self.assertEqual(kinds["Mid"], Line("Mid", "mid", None, ("ViewName", "Readable", "Value", "Value"), None, "Plain"))
@@ -119,7 +117,6 @@ def tokens_of(line: str, patterns: list[Rule], begin: int, end: int) -> list[Tok
 
 
 def tokens(line: str) -> list[Token]:
-    """The parts of a line that have a scope."""
     return tokens_of(line, GRAMMAR["patterns"], 0, len(line))
 
 
@@ -146,8 +143,6 @@ MESSAGES: dict[str, tuple[str, str, str] | None] = {
 
 
 class Files(unittest.TestCase):
-    """What is seen where a file has other words than the language, and what the files make of lines."""
-
     def test_files_that_differ(self) -> None:
         def differing(texts: dict[Path, str]) -> list[Path]:
             return [file for file, wanted, found in compared(texts) if wanted != found]
@@ -243,8 +238,6 @@ CASES = [
 
 
 class OfTheorems(unittest.TestCase):
-    """A group in a folder, which is also that of the theorems."""
-
     def setUp(self) -> None:
         folder = tempfile.TemporaryDirectory()
         self.addCleanup(folder.cleanup)
@@ -252,7 +245,6 @@ class OfTheorems(unittest.TestCase):
         (self.room / "some").mkdir()
 
     def said(self, script: str, report: str, words: str, *more: str) -> tuple[int, str]:
-        """How the tool ends on a case, and what it says."""
         case = Case("plain.run", "some/part", script.encode(), words.split(), report.encode(), None, 0, None)
         Group(case.group, self.room / "some/part.cases", [], [Block(0, "plain", case.script, [case])]).write()
         status, said, messages = said_by("theorems", "--in", self.room, "--out", self.room, *more)

@@ -8,6 +8,7 @@ import sys
 import tempfile
 import unittest
 from pathlib import Path
+from unittest.mock import patch
 
 from bench.tables import measured_on, table_of, with_table
 from tools.common import DOCS
@@ -30,7 +31,7 @@ BLOCKS = {
     "dependencies": ("`wb_states` |", "`wb_size` |"),
     "crates": ("| `wb_streams` |", "| `wb_stream` |"),
     r"files (?i)\bpop_?check": ("`src/script.rt`", "`src/scripts.rt`"),
-    **{f"number {it}": ("-->", "-->1") for it in ("functions", "contracts", "wrong-bodies")},
+    **{f"number {it}": ("-->", "-->1") for it in ("functions", "contracts", "wrong-bodies", "open")},
 }
 # what a page says, and what is said of it
 FAULTS = {
@@ -84,14 +85,11 @@ MEASURED_PAGE = "Before.\n\n<!-- measured bench/run -->\nold\n<!-- end -->\n\n<!
 
 
 class OfPages(unittest.TestCase):
-    """What fails, and what is written."""
-
     def setUp(self) -> None:
         folder = Path(self.enterContext(tempfile.TemporaryDirectory()))
         self.page, self.program = folder / "page.md", folder / "program"
 
     def said(self, text: str, *words: str | Path) -> Said:
-        """What is said of a page with this text."""
         self.page.write_text(text, encoding="utf-8")
         return said_by("pages", *words, self.page)
 
@@ -100,6 +98,7 @@ class OfPages(unittest.TestCase):
         said = self.said(text, *words)
         self.assertEqual((said.status, fault in said.output), (1, True), f"{text}: {said.output}")
 
+    @patch("tools.documents.pages.number_of_open", lambda: 7)
     def test_stale_blocks(self) -> None:
         for words, (right, stale) in BLOCKS.items():
             self.said(f"Of <!-- {words} --><!-- end -->.", "--write")
@@ -180,8 +179,6 @@ def unbroken(text: str) -> str:
 
 
 class Compared(unittest.TestCase):
-    """What is seen beside the help, as the worked cases have it."""
-
     def test_the_width(self) -> None:
         with tempfile.TemporaryDirectory() as room:
             program = Path(room, "program")
@@ -210,8 +207,6 @@ class Compared(unittest.TestCase):
 
 
 class InBash(unittest.TestCase):
-    """What bash completes, by the file that is installed."""
-
     def test_completions(self) -> None:
         call = 'source "$1"; shift; COMP_WORDS=("$@"); COMP_CWORD=$(($# - 1)); _workbench; printf "%s\\n" "${COMPREPLY[@]}"'
         for words, wanted in COMPLETED.items():

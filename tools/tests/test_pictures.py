@@ -27,7 +27,6 @@ OTHER_REPORTS = [
 
 
 def line(begins: str, among: list[str] = LINES) -> str:
-    """The first line that begins so."""
     return next(it for it in among if it.startswith(begins))
 
 
@@ -69,8 +68,6 @@ OTHER_ENDS = [
 
 
 class OfPictures(unittest.TestCase):
-    """A picture of two runs, and reports."""
-
     def assert_faults(self, wanted: list[str], picture: str = PICTURE, command: str = "check", other: dict[str, list[str]] = {}) -> None:
         """A picture beside these reports must have one fault for each of these texts, with it."""
         found = list(faults_of(Picture(picture), command, lambda words: (REPORTS | other)[" ".join(words)]))

@@ -1,5 +1,5 @@
 """The one door to the tools, and what has no tests in a file of its own: runs of programs, the toolchain's module, what is installed,
-wrong bodies that don't fit, bodies that make the error for memory that ran out; and what the tools refuse that try how robust the program
+bodies that make the error for memory that ran out; and what the tools refuse that try how robust the program
 is: lines of progress, by what a terminal might have shown, and answers where allocations fail, of a program that makes a call once more
 where it found no memory."""
 
@@ -22,19 +22,16 @@ from tools.common import FINE, PROGRAM, ROOT, TOOLS, Answer, NoAnswer, Trials, a
 from tools.crates import CALLS, LOOKED_AT, WRITTEN_FOR, Crates, Kit, changes_in, kit
 from tools.door import COMMANDS, said_by
 from tools.failing_allocations import NO_MEMORY, Trial
-from tools.layout import differences, makers, misfits
+from tools.layout import differences, makers
 from tools.progress import KINDS, Kind, Shown, look_at_lines, screen
 from tools.tests.test_verdicts import files_in
 
 
 def module_of(path: Path) -> str:
-    """The name of a module below `tools`."""
     return ".".join(path.relative_to(TOOLS).with_suffix("").parts)
 
 
 class Door(unittest.TestCase):
-    """Commands, and what is none."""
-
     def test_each_module_is_a_command_or_a_part(self) -> None:
         texts = {
             module_of(it): it.read_text(encoding="utf-8")
@@ -48,19 +45,15 @@ class Door(unittest.TestCase):
         gate = re.findall(r"from tools\.([\w.]+) import", (ROOT / "test").read_text(encoding="utf-8"))
         self.assertEqual(texts.keys() - {"__init__", "door", *modules, *used, *gate}, set())
 
-    def test_each_command_has_a_line(self) -> None:
+    def test_commands(self) -> None:
         status, listed, _ = said_by("--help")
         self.assertEqual(status, 0)
         for command in COMMANDS:
             self.assertRegex(listed, rf"(?m)^  {command} +[A-Z].*\.$")
-
-    def test_help_of_commands(self) -> None:
-        for command in COMMANDS.keys() - {"workbench"}:
-            status, said, _ = said_by(command, "--help")
-            self.assertEqual(status, 0, command)
-            self.assertIn(f"usage: dev {command} ", said)
-
-    def test_what_is_no_command(self) -> None:
+            # the other one hands all of its words on
+            if command != "workbench":
+                status, said, _ = said_by(command, "--help")
+                self.assertEqual((status, f"usage: dev {command} " in said), (0, True), command)
         status, said, messages = said_by("walk")
         self.assertEqual((status, said), (2, ""))
         self.assertIn("there is no command walk", messages)
@@ -73,10 +66,7 @@ class Door(unittest.TestCase):
 
 
 class Programs(unittest.TestCase):
-    """One run of a program."""
-
     def answer(self, code: str, script: bytes = b"", seconds: float = 20, **streams: object) -> Answer:
-        """What Python answers to some code."""
         return answer_of(Path(sys.executable), "-c", code, script=script, seconds=seconds, **streams)
 
     def test_an_answer(self) -> None:
@@ -94,8 +84,6 @@ class Programs(unittest.TestCase):
 
 
 class OfToolchain(unittest.TestCase):
-    """Modules behind `rt` that are as they were, and others."""
-
     def setUp(self) -> None:
         self.module: Any = ModuleType("rtlib")
         exec(files_in("small-repository.txt")["kit/rtlib.py"], vars(self.module))
@@ -120,16 +108,12 @@ class OfToolchain(unittest.TestCase):
         self.assertEqual(list(changes_in(kit().module)), [])
 
 
-class InFolder(unittest.TestCase):
-    """What is made in a folder."""
-
-    def setUp(self) -> None:
-        self.room = Path(self.enterContext(tempfile.TemporaryDirectory()))
-        self.enterContext(contextlib.redirect_stdout(io.StringIO()))
-
+class Installed(unittest.TestCase):
     def test_what_is_installed(self) -> None:
         # this stands in for the program, which may not be built
-        program, prefix = self.room / "program", self.room / "a prefix"
+        room = Path(self.enterContext(tempfile.TemporaryDirectory()))
+        program, prefix = room / "program", room / "a prefix"
+        self.enterContext(contextlib.redirect_stdout(io.StringIO()))
         places = {program if source == PROGRAM else source: place for source, place in PLACES.items()}
         program.write_text("first", encoding="ascii")
         program.chmod(0o700)
@@ -144,17 +128,6 @@ class InFolder(unittest.TestCase):
         for source, place in places.items():
             self.assertEqual(found[place].read_bytes(), source.read_bytes(), place)
             self.assertEqual(found[place].stat().st_mode & 0o777, 0o755 if place.startswith("bin/") else 0o644, place)
-
-    def test_wrong_bodies_that_do_not_fit(self) -> None:
-        crate = self.room / "crates" / "low"
-        (self.room / "crates.txt").write_text("low:\n", encoding="utf-8")
-        for old, count in (("n / 2", 1), ("n / 4", 0), ("u32", 2)):
-            edit = f"[a-third]\nfunction: low::half\nold: {old}\nnew: n / 3\n"
-            for name, text in {"src/lib.rt": "pub fn half(n: u32) -> u32 {\n    n / 2\n}\n", "wrong-bodies/lib.edits": edit}.items():
-                (crate / name).parent.mkdir(parents=True, exist_ok=True)
-                (crate / name).write_text(text, encoding="utf-8")
-            said = [] if count == 1 else [f"low/a-third: an 'old:' text is in src/lib.rt {count} times, and not once"]
-            self.assertEqual(misfits(Crates(self.room), "low"), said)
 
 
 MADE = (
@@ -173,7 +146,6 @@ HANDED_ON = (
 
 
 def source(body: str) -> str:
-    """A file with a function of this body."""
     return f"fn made(cell: Cell) -> Result<u8, NoMemory>\n    ensures {{ OnErr result (fault ≡ Fault.NoMemory) }}\n{{\n    {body}\n}}\n"
 
 
@@ -212,7 +184,6 @@ def first(many: int, number: int, left: str = LEFT) -> str:
 
 
 def heap(length: int, percent: int = 99) -> str:
-    """What a line says of a length."""
     return f"a heap of {length} bytes, {percent}% of the lengths done"
 
 
@@ -258,8 +229,6 @@ STOPPED = NO_MEMORY._replace(output=b"one\nno memory\n")
 
 
 class Lines(unittest.TestCase):
-    """Which lines are right, and what is left on a terminal."""
-
     def test_lines(self) -> None:
         for what, is_right, kind, lines in LINES:
             checks, pieces = Trials(Path()), [(at, f"\rtrying {line}".encode()) for at, line in lines]
@@ -267,10 +236,8 @@ class Lines(unittest.TestCase):
                 look_at_lines(checks, kind, "a sweep", 40, Shown([*pieces, (2.9, b"attempts 40\r\n")], 0, 3.0))
                 self.assertEqual(checks.failed == 0, is_right)
 
-    def test_a_line_that_is_wiped(self) -> None:
+    def test_a_line_that_is_wiped_or_left(self) -> None:
         self.assertEqual(screen(b"\rtrying 10 of 40\rtrying 9 of 40 \r              \rleaks 0\r\n"), ["leaks 0", ""])
-
-    def test_a_line_that_is_left(self) -> None:
         self.assertEqual(screen(b"\rtrying 10 of 40\rleaks 0\r\n"), ["leaks 010 of 40", ""])
 
 
@@ -290,14 +257,11 @@ class RunsSideBySide(unittest.TestCase):
             with patch.object(Trial, "run", run), patch.object(Trial, "asked_needlessly", return_value=None):
                 return trial.fault()
 
-    def test_right_answers(self) -> None:
+    def test_answers(self) -> None:
         self.assertEqual(self.fault({}), (None, LAST, 0))
         self.assertEqual(self.fault({("from", 2): NO_MEMORY, ("from", 5): STOPPED, ("each", 1): NO_MEMORY}), (None, LAST, 3))
-
-    def test_the_first_wrong_answer_is_named(self) -> None:
+        # the first wrong one is named; a single failure must change nothing
         fault, last, wanting = self.fault({("from", 1): NO_MEMORY, ("from", 3): WRONG, ("from", 4): WRONG, ("each", 1): WRONG})
         self.assertRegex(fault or "", "^from 3 of 6: ")
         self.assertEqual((last, wanting), (LAST, 0))
-
-    def test_a_single_failure_must_change_nothing(self) -> None:
         self.assertRegex(self.fault({("once", 2): STOPPED})[0] or "", "^once 2 of 6: ")

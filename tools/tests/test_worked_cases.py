@@ -143,8 +143,6 @@ TABLES = {
 
 
 class OfTexts(unittest.TestCase):
-    """Texts, and the lines in which they are written."""
-
     def test_each_byte_and_some_texts(self) -> None:
         texts = [bytes([it]) for it in range(256)] + [bytes([it, 10]) for it in range(256)]
         texts += [b"", b"\n", b"\n\n#", b"a \n", b"a\\\n", b"\\{2:a\\}", b"caf\xc3\xa9\r\n", bytes(range(256)) * 2]
@@ -176,8 +174,6 @@ class OfTexts(unittest.TestCase):
 
 
 class OfCases(unittest.TestCase):
-    """A group in a folder, and a program that answers what a script says."""
-
     def setUp(self) -> None:
         folder = Path(self.enterContext(tempfile.TemporaryDirectory()))
         self.program, self.cases = folder / "workbench", folder / "cases"
@@ -186,12 +182,10 @@ class OfCases(unittest.TestCase):
         self.is_program(PROGRAM)
 
     def is_program(self, text: str) -> None:
-        """Makes this the program."""
         self.program.write_text(text, encoding="utf-8")
         self.program.chmod(0o755)
 
     def reads(self, text: str) -> Group:
-        """The group that a text is."""
         self.file.write_bytes(text.encode())
         return read(self.file, "some")
 
@@ -202,11 +196,9 @@ class OfCases(unittest.TestCase):
         Group("some", self.file, [], [*blocks, *tables]).write()
 
     def held(self) -> list[Case]:
-        """The cases that the group has."""
         return read(self.file, "some").cases()
 
     def said(self, *words: str | Path, command: str = "cases") -> tuple[int, str]:
-        """How a command ends on the folder, and what it says."""
         folder = ["--in", self.cases] if command == "cases" else []
         status, said, messages = said_by(command, "--program", self.program, *folder, *words)
         self.assertEqual(messages, "")
@@ -214,8 +206,6 @@ class OfCases(unittest.TestCase):
 
 
 class OfGroups(OfCases):
-    """What a group is."""
-
     def test_each_part(self) -> None:
         group = self.reads(GROUP)
         self.assertEqual((group.head, group.cases(), group.text()), (["# Some cases."], [READ], GROUP))
@@ -246,8 +236,6 @@ class OfGroups(OfCases):
 
 
 class WhatIsSaid(OfCases):
-    """Cases that pass, and cases that fail."""
-
     def test_right_answers(self) -> None:
         contains = ["first: ended", "line: leaks 1", "last: steps 4"]
         others = [replace(RIGHT, stderr=None, args=[]), Case("", "", b"", [], b"", None, 6, None)]
@@ -324,8 +312,6 @@ class WhatIsSaid(OfCases):
 
 
 class WhatIsWritten(OfCases):
-    """What --write makes of cases."""
-
     def test_an_answer(self) -> None:
         self.put(WRONG, replace(RIGHT, name="two.run", stderr=None))
         other = self.held()[1]

@@ -48,8 +48,6 @@ only=4 proved=1
 
 
 class WhatIsRead(unittest.TestCase):
-    """What is read of a check."""
-
     def test_disproved_is_what_has_an_open_goal(self) -> None:
         said = {name: it.text for name, it in read_verdict(PRINTED).functions.items()}
         self.assertEqual(said, {"low::next": "disproved", "low::after_next": "", "low::put_next": "", "low::zero": "PROVED"})
@@ -67,7 +65,6 @@ class SmallRepository(InRepository):
         (self.root / "kit/rt").chmod(0o755)
 
     def add(self, name: str, text: str) -> None:
-        """Adds lines to a file of the repository."""
         self.write(name, (self.root / name).read_text(encoding="utf-8") + text)
 
     def try_bodies(self, *words: str, env: dict[str, str] | None = None) -> tuple[list[str], int]:
@@ -82,8 +79,6 @@ class SmallRepository(InRepository):
 
 
 class ByTheToolchain(SmallRepository):
-    """What the tool tries, by checks of the two crates, and what it can't try."""
-
     def test_words_that_ask_for_no_edit(self) -> None:
         for words, said in {
             ("low", "--only", "too-much"): "low has no edit too-much",
@@ -110,13 +105,6 @@ class ByTheToolchain(SmallRepository):
         self.assertIn("high/right: PROVED", lines)
         self.assertEqual((lines[-1], status), ("2 passed, 1 failed", 1))
 
-    def test_one_alone(self) -> None:
-        self.add(LOW_EDITS, "".join(OF_LOW))
-        lines, status = self.try_bodies("low", "--only", "twice", "--logs", str(self.root / "logs"))
-        self.assertEqual((lines, status), (["low/twice: disproved", "1 passed, 0 failed"], 0))
-        self.assertIn("it is not proved that", (self.root / "logs/low.log").read_text(encoding="utf-8"))
-        self.assertFalse((self.root / FILE).exists())
-
     def test_each_function_and_each_clause_must_be_disproved(self) -> None:
         self.add(LOW_EDITS, "".join(OF_LOW))
         self.write("crates/low/wrong-bodies/further.edits", self.files[LOW_EDITS].replace("too-little", "all"))
@@ -125,8 +113,9 @@ class ByTheToolchain(SmallRepository):
         self.assertEqual(sorted(lines[:-1]), sorted(["low/too-little: disproved", twice, *list(OF_LOW.values())[:-1]]))
         self.assertEqual((lines[-1], status, (self.root / FILE).exists()), ("3 passed, 3 failed", 1, False))
         (self.root / "crates/low/wrong-bodies/further.edits").unlink()
-        lines, status = self.try_bodies("low", "--only", "all")
-        self.assertEqual((lines, status), (["low/all: disproved", "1 passed, 0 failed"], 0))
+        lines, status = self.try_bodies("low", "--only", "all", "--logs", str(self.root / "logs"))
+        self.assertEqual((lines, status, (self.root / FILE).exists()), (["low/all: disproved", "1 passed, 0 failed"], 0, False))
+        self.assertIn("it is not proved that", (self.root / "logs/low.log").read_text(encoding="utf-8"))
 
 
 class WithSources(SmallRepository):
@@ -138,20 +127,16 @@ class WithSources(SmallRepository):
             (self.root / it).unlink()
 
     def write_source(self, crate: str, source: str, *names: str) -> None:
-        """Adds a source with functions of these names."""
         functions = (f"/// A number.\npub fn {it}() -> u32\n{{\n    number({at})\n}}\n" for at, it in enumerate(names, 1))
-        edits = (f"[{it}]\nfunction: {crate}::{source}::{it}\nold: number({at})\nnew: number(0)\n" for at, it in enumerate(names, 1))
+        edits = [f"[{it}]\nfunction: {crate}::{source}::{it}\nold: number({at})\nnew: number(0)\n" for at, it in enumerate(names, 1)]
         self.write(f"crates/{crate}/src/{source}.rt", "\n".join(functions))
-        self.write(f"crates/{crate}/wrong-bodies/{source}.edits", "\n".join(edits))
+        self.write(f"crates/{crate}/wrong-bodies/{source}.edits", "\n".join([f"=== src/{source}.rt", *edits]))
 
     def choice(self, sources: dict[str, list[str]], picked: list[str], seed: str = "a commit") -> Choice:
-        """What is tried, by what picks."""
         return Choice(Verdicts(self.root, LOGIC), sources, picked, seed, [WRONG_BODIES], [])
 
 
 class WhatIsChosen(WithSources):
-    """Which edits are tried, and in which batches. Nothing is checked for it."""
-
     def setUp(self) -> None:
         super().setUp()
         self.write_source("low", "first", *(f"a{it}" for it in range(2 * AT_ONCE + 1)))
@@ -190,11 +175,9 @@ class WithinATime(WithSources):
         self.environment = {**os.environ, "PATH": path, "TRIED": str(self.tried), "HANGING": str(self.hanging)}
 
     def try_for(self, seconds: float) -> tuple[list[str], int]:
-        """What the tool prints, and its status."""
         return self.try_bodies("--after-ci", "--minutes", str(seconds / 60), env=self.environment)
 
     def hung(self) -> list[int]:
-        """The processes that hung."""
         return [int(it) for it in self.hanging.read_text(encoding="utf-8").split()] if self.hanging.exists() else []
 
     def test_a_check_that_runs_is_ended_and_what_came_before_is_kept(self) -> None:
@@ -212,8 +195,9 @@ class WithinATime(WithSources):
         ):
             said = said_by("wrong-bodies", "--jobs", "1", "--after-ci", "--minutes", "1")
         kept = ["low/one: disproved", "low/two: disproved", "open: 1 wrong body of 1 source", f"  low/last: 1, last disproved on {day}"]
-        number = "README.md says `At present no wrong body is open`: `At present 1 wrong body is open` belongs there once"
-        self.assertEqual((said.output.splitlines(), said.status), ([*kept, number, "2 passed, 0 failed"], 0))
+        lines = said.output.splitlines()
+        self.assertEqual((lines[:-2], lines[-1], said.status), (kept, "2 passed, 0 failed", 0))
+        self.assertIn("./tools/dev pages --write", lines[-2])
         self.assertEqual(self.standing(), ["low/first"])
         self.assertEqual([session_of(it) for it in self.hung()], [None])
 
@@ -240,7 +224,7 @@ class WithinATime(WithSources):
         self.write_lines(LOGIC, are_valid=False)
         self.write_source("low", "first", *(f"a{it}" for it in range(2 * AT_ONCE)))
         lines, status = self.try_for(600)
-        self.assertEqual((lines[-2:], status), (["open: no wrong body", f"{2 * AT_ONCE + 1} passed, 0 failed"], 0))
+        self.assertEqual((lines[-3], lines[-1], status), ("open: no wrong body", f"{2 * AT_ONCE + 1} passed, 0 failed", 0))
         self.assertEqual(self.standing(), ["low/first", "high/second"])
         tried = [it.split() for it in self.tried.read_text(encoding="utf-8").splitlines()]
         self.assertEqual([(len(it), it[0].rpartition("::")[0]) for it in tried], [
@@ -256,11 +240,7 @@ class WithinATime(WithSources):
                 self.add("crates/low/src/first.rt", change)
                 return Verdict({"low::first::one": Said("disproved")})
 
-            with (
-                tempfile.TemporaryDirectory() as rooms,
-                patch("tools.edits.trial.kit"),
-                patch("tools.edits.trial.check", check),
-            ):
+            with (tempfile.TemporaryDirectory() as rooms, patch("tools.edits.trial.kit"), patch("tools.edits.trial.check", check)):
                 trial = Trial(choice.verdicts, Path(rooms), Checks(), choice.sources)
                 with contextlib.redirect_stdout(io.StringIO()):
                     trial.judge(choice.whole_batches()[0], 1)
@@ -289,6 +269,7 @@ class WithinATime(WithSources):
 
 
 TWO = """\
+=== src/deep/wide.rt
 [longer]
 function: low::wide::length
 old:     7
@@ -302,51 +283,58 @@ file: src/narrow.rt
 old: 5
 new:
 """
+NARROW = "=== src/narrow.rt\n"
 HEAD = "[even]\nfunction: low::narrow::length\n"
 EVEN = f"{HEAD}old: 5\nnew: 6\n"
 MUST = "function: low::narrow::length\nfile: src/narrow.rt\nold: 5\nnew: 6\n"
 TWICE = "another edit of the crate has its name"
-NO_NAME = "it doesn't begin with a name in brackets"
+NO_SOURCE = "it doesn't begin with a source, as in === src/lib.rt"
+NO_NAME = "below src/narrow.rt it doesn't begin with a name in brackets"
 NOT_UNDERSTOOD = "it has a line that isn't understood where it stands: "
 
 # files of edits beside the two, and which of their edits is none, and why
 BAD = (
-    ("wrong-bodies/narrow.edits", EVEN + EVEN, "even", TWICE),
-    ("wrong-bodies/narrow.edits", EVEN.replace("even", "longer"), "longer", TWICE),
-    ("must-fail/longer.edit", MUST, "longer", TWICE),
-    ("wrong-bodies/even.edit", MUST, "even.edit", "its name doesn't end in .edits"),
-    ("wrong-bodies/narrow.edits", MUST, "narrow.edits", NO_NAME),
-    ("wrong-bodies/narrow.edits", "", "narrow.edits", NO_NAME),
-    ("wrong-bodies/narrow.edits", f"old: 5\n[even]\n{MUST}", "narrow.edits", NO_NAME),
-    ("wrong-bodies/other.edits", EVEN, "even", "there is no file src/other.rt below src/"),
+    ("all.edits", NARROW + EVEN + EVEN, "even", TWICE),
+    ("all.edits", NARROW + EVEN.replace("even", "longer"), "longer", TWICE),
+    ("../must-fail/longer.edit", MUST, "longer", TWICE),
+    ("even.edit", MUST, "even.edit", "its name doesn't end in .edits"),
+    ("all.edits", "", "all.edits", NO_SOURCE),
+    ("all.edits", EVEN, "all.edits", NO_SOURCE),
+    ("all.edits", f"old: 5\n{NARROW}{EVEN}", "all.edits", NO_SOURCE),
+    ("all.edits", NARROW, "all.edits", NO_NAME),
+    ("all.edits", NARROW + MUST, "all.edits", NO_NAME),
+    ("all.edits", f"{NARROW}{EVEN}\n{NARROW}", "all.edits", NO_NAME),
+    ("all.edits", f"=== src/other.rt\n{EVEN}", "even", "there is no file src/other.rt below src/"),
     *(
-        ("wrong-bodies/narrow.edits", f"{HEAD}{lines}\n", "even", NOT_UNDERSTOOD)
+        ("all.edits", f"{NARROW}{HEAD}{lines}\n", "even", NOT_UNDERSTOOD)
         for lines in (
             *("old: 5\nfile: src/narrow.rt\nnew: 6", "old: 5\nold: 5\nnew: 6"),
-            *("new: 6", "[Even]\nold: 5\nnew: 6", "function: low::x"),
+            *("new: 6", "[Even]\nold: 5\nnew: 6", "function: low::x", "=== narrow.rt\nold: 5\nnew: 6"),
         )
     ),
-    ("wrong-bodies/narrow.edits", HEAD, "even", "it changes nothing"),
-    ("wrong-bodies/narrow.edits", f"{HEAD}old: 5\n", "even", "an 'old:' text has no new one"),
-    ("wrong-bodies/narrow.edits", "[even]\nold: 5\nnew: 6\n", "even", "its first line isn't 'function: PATH'"),
-    ("wrong-bodies/narrow.edits", "[even]\nfunction: \nold: 5\nnew: 6\n", "even", "its first line names no function"),
+    ("all.edits", NARROW + HEAD, "even", "it changes nothing"),
+    *(
+        ("all.edits", f"{NARROW}{HEAD}old: {old}\nnew: 6\n", "even", f"an 'old:' text is in src/narrow.rt {count} times, and not once")
+        for old, count in (("6", 0), ("u", 2))
+    ),
+    ("all.edits", f"{NARROW}{HEAD}old: 5\n", "even", "an 'old:' text has no new one"),
+    ("all.edits", f"{NARROW}[even]\nold: 5\nnew: 6\n", "even", "its first line isn't 'function: PATH'"),
+    ("all.edits", f"{NARROW}[even]\nfunction: \nold: 5\nnew: 6\n", "even", "its first line names no function"),
 )
 
 
 class CrateOfEdits(InRepository):
-    """A crate of two sources, with two edits."""
-
     files = {
         "low/src/deep/wide.rt": "pub fn length() -> u32\n{\n    7\n}\n",
         "low/src/narrow.rt": "pub fn length() -> u32\n{\n    5\n}\n",
-        "low/wrong-bodies/deep/wide.edits": TWO,
+        "low/wrong-bodies/wide.edits": TWO,
     }
 
     def setUp(self) -> None:
         super().setUp()
         self.crate = self.root / "low"
 
-    def test_many_of_a_file_by_their_names(self) -> None:
+    def test_many_of_a_source_by_their_names(self) -> None:
         changes = (("src/deep/wide.rt", "    7", " [longer]"), ("src/narrow.rt", "5", ""))
         both = WrittenEdit("both-files", "low::wide::length, low::narrow::length", changes)
         longer = WrittenEdit("longer", "low::wide::length", (("src/deep/wide.rt", "    7", "    8"),))
@@ -370,7 +358,7 @@ class CrateOfEdits(InRepository):
     def test_edits_that_say_nothing_of_a_function(self) -> None:
         for name, text, edit, why in BAD:
             with self.subTest(text, name=name):
-                self.write(f"low/{name}", text)
+                self.write(f"low/wrong-bodies/{name}", text)
                 bad = read_edits(self.crate, [WRONG_BODIES, MUST_FAIL])[1]
                 self.assertEqual({label: said[: len(why)] for label, said in bad.items()}, {f"low/{edit}": why})
-                (self.crate / name).unlink()
+                (self.crate / "wrong-bodies" / name).unlink()
