@@ -63,12 +63,12 @@ cleanup/limit-stops-the-stack-above-a-large-hole.run cleanup/push-past-the-limit
 rates/leak-that-needs-two-failures-every.run rates/leak-that-needs-two-failures-every-json.sweep
 rates/eighth-push-grows-the-cleanup-cell-every.sweep examples/fallback-leaks-every-json.check pairs/leak-that-needs-two-failures-pair.run
 pairs/leak-that-needs-two-failures-pairs.sweep pairs/leak-that-needs-two-failures-pairs-json.sweep
-pairs/eighth-push-grows-the-cleanup-cell-pairs.sweep examples/clean-up-fails-pairs-json.check explained/pictures/two-runs.check
+pairs/eighth-push-grows-the-cleanup-cell-pairs.sweep examples/clean-up-fails-pairs-json.check explained/files/two-runs.check
 explained/sets/three-given-failures.run explained/sets/picture-of-a-set.run lengths/unpushed-object-leaks-when-construction-fails.lengths
 lengths/small-minimum-and-step.lengths lengths/failure-that-outruns-the-budget-json.lengths lengths/more-leaks-in-longer-heaps.lengths
-examples/loader-leaks-json.lengths explained/meetings/loop-forgets-two-failures-pairs.sweep
-explained/meetings/trap-in-a-loop-forgets-two-failures-pairs.sweep explained/meetings/second-retry-outruns-the-budget-pairs.sweep
-explained/meetings/retries-outrun-the-budget-all.sweep explained/follow/items-that-a-leave-destroys.run
+examples/loader-leaks-json.lengths explained/runs/courses/loop-forgets-two-failures-pairs.sweep
+explained/runs/courses/trap-in-a-loop-forgets-two-failures-pairs.sweep explained/runs/courses/second-retry-outruns-the-budget-pairs.sweep
+explained/runs/courses/retries-outrun-the-budget-all.sweep explained/follow/items-that-a-leave-destroys.run
 explained/sets/sweep-finds-three-failures.sweep explained/sets/picture-of-a-sweep-over-sets.sweep
 failures/leak-that-needs-three-failures-json.sweep failures/retry-that-fails-again.check failures/cut-set-before-a-bad-one.sweep
 failures/leak-that-needs-three-failures-of-two-json.check every-set/leak-that-needs-three-failures.sweep

@@ -31,7 +31,7 @@ import re
 import shlex
 from collections.abc import Callable, Iterable, Iterator
 from functools import cache
-from itertools import pairwise
+from itertools import pairwise, zip_longest
 from pathlib import Path
 from typing import NamedTuple, NoReturn
 
@@ -263,7 +263,9 @@ IN_CODE = "\N{BLACK SQUARE}"
 END = re.compile(rf"""(?<=[^.][.!?])(?<!e\.g\.)(?<!i\.e\.)(?<!cf\.)(?<!etc\.)(?<!vs\.)["')*_]* (?=["'(*_]*[A-Z0-9{IN_CODE}])""")
 # a page in the code type, perhaps with the title of a section after it; and a file or a folder of the repository
 NAMED = re.compile(r'`([\w./-]+\.md)`(?:, "([^"]+)")?')
-FILE = re.compile(r"`(?:\./)?((?:crates|tools|docs|cases|bench|editors)/[\w./-]+)`")
+BEFORE = re.compile(r'"([^"`]+)" in `([\w./-]+\.md)`')
+HERE = re.compile(r'\("([^"`]+)"\)')
+FILE = re.compile(r"`(?:\./|\.\./)?((?:crates|tools|docs|cases|bench|editors|examples|completions)/[\w./-]+)`")
 TITLE = re.compile(r"^#+ (.*)$", re.MULTILINE)
 
 
@@ -282,14 +284,24 @@ def with_blocks(text: str, faults: list[str]) -> str:
             if kind == "promises":
                 faults.extend(faults_of_promises(block))
             elif not MEASURED.search(block):
-                faults.append("measured on no commit")
+                faults.append(f"measured on no commit:{words}")
         except LookupError as stale:
             faults.append(f"{kind}{words}: {stale}")
         return found[0]
 
-    if text.count("<!--") != 2 * len(BLOCK.findall(text)) + len(RUN.findall(text)):
-        faults.append("a comment that neither begins nor ends a block, nor stands before an example")
+    if stray := re.search("<!--.*", RUN.sub("", BLOCK.sub("", text))):
+        faults.append(f"a comment that neither begins nor ends a block, nor stands before an example: {stray[0]}")
     return BLOCK.sub(written, text)
+
+
+def stale_blocks(text: str, made: str) -> Iterator[str]:
+    """Which blocks of a page aren't what the sources give, each with the page's first line that differs."""
+    for old, new in zip(BLOCK.finditer(text), BLOCK.finditer(made), strict=True):
+        rows = enumerate(zip_longest(old[0].splitlines(), new[0].splitlines(), fillvalue=""))
+        for at, (found, wanted) in (it for it in rows if it[1][0] != it[1][1]):
+            line = text.count("\n", 0, old.start()) + at + 1
+            yield f"line {line}, {old[1]}{old[2]}: `{found}` and what follows aren't what the sources give: `{wanted}`"
+            break
 
 
 def with_runs(text: str, program: Path, faults: list[str]) -> str:
@@ -327,7 +339,10 @@ def faults_of(page: Path, text: str) -> Iterator[str]:
     yield from (f"a line of {len(it)} columns: {it[:40]} .." for it in lines if len(it) > WIDEST)
     yield from (f"there is no {it}" for _, it in LINK.findall(text) if it and "://" not in it and not (page.parent / it).exists())
     yield from (f"there is no file {it}" for it in FILE.findall(text) if not (ROOT / it).exists())
-    for name, title in NAMED.findall(" ".join(text.split())):
+    prose = " ".join(text.split())
+    before = [(name, title) for title, name in BEFORE.findall(prose)]
+    here = [(page.name, it) for it in HERE.findall(CODE.sub(IN_CODE, OTHER.sub("\n", FENCED.sub("\n", text))))]
+    for name, title in [*NAMED.findall(prose), *before, *here]:
         named = next((it for it in (page.parent / name, ROOT / name) if it.exists()), None)
         if named is None:
             yield f"there is no page {name}"
@@ -348,7 +363,7 @@ def main(words: list[str]) -> int:
         if given.write:
             page.write_text(made, encoding="utf-8")
         elif made != text and not given.runs:
-            faults.append("its blocks aren't what the sources give: ./tools/dev pages --write")
+            faults += [*stale_blocks(text, made), "./tools/dev pages --write writes its blocks anew"]
         faults += [] if given.runs else faults_of(page, made)
         tally.check(not faults, "\n".join(f"{page}: {it}" for it in faults))
     return tally.end()

@@ -2,11 +2,12 @@
 //! on top.
 
 use crate::runs::counts::{Many, of_one_or_more};
-use crate::runs::items_off::{cure_of_off, put_item_off};
 use crate::runs::panics::Meaning;
 use crate::runs::paths::{AfterLine, body_name};
 use crate::runs::script_page::{ScriptPage, Written};
-use crate::runs::taken::{LEFT_TO_CALLER, TAKEN_FROM_CALLER, Then, put_left, put_of_caller};
+use crate::runs::taken::{
+    LEFT_TO_CALLER, TAKEN_FROM_CALLER, Then, cure_of_off, put_item_off, put_left, put_of_caller,
+};
 use wb_heap_model::heap::Panic;
 use wb_history::{ItemOnStack, Origin, Stay, WatchedRun};
 use wb_machine::{Raised, Raiser};
