@@ -23,7 +23,7 @@ use crate::runs::script_page::{ScriptPage, Written};
 use crate::runs::sentences::put_values;
 use crate::runs::told::put_life;
 use wb_heap_model::heap::{Panic, Rule};
-use wb_history::{Ended, Life, Meant, PointerState, Values, WatchedRun};
+use wb_history::{Ended, Leave, Life, Meant, PointerState, Values, WatchedRun};
 use wb_machine::{Raised, Raiser};
 use wb_meaning::run::Outcome;
 
@@ -270,30 +270,55 @@ fn symbian_note(raised: Raised, run: &WatchedRun<'_>) -> &'static str {
     }
 }
 
-/// Writes where Symbian raises the panic, and what to look for: at the code of a leave, if the panic may come of one that was overlooked.
+/// Writes where Symbian raises the panic, and what to look for.
 fn put_remarks(
     page: &mut ScriptPage<'_>,
     line: u32,
     raised: Raised,
     run: &WatchedRun<'_>,
 ) -> Written {
-    let (note, help) = (symbian_note(raised, run), help_of(page, line, raised, run));
+    let note = symbian_note(raised, run);
     if !note.is_empty() {
         page.page.write_note_text(note);
     }
-    let look = if may_come_of_leave(line, run) {
-        overlooked_leave(page, run)
-    } else {
-        None
-    };
-    match (look, kept_value(page, line, run)?) {
-        (_, Some(kept @ Kept::ByOperation(_))) => put_cure_of_kept(page, kept, run),
-        (Some(leave), _) => put_look(page, leave),
-        (None, Some(kept)) => put_cure_of_kept(page, kept, run),
-        (None, None) if help.is_empty() => {}
-        (None, None) => page.page.write_help_text(help),
+    let kept = kept_value(page, line, run)?;
+    match look_of(page, line, kept, run) {
+        Some(leave) => put_look(page, leave),
+        None => put_help(page, line, raised, kept, run),
     }
     Ok(())
+}
+
+/// The leave whose code is to be looked at, if the panic may come of a leave that was overlooked; `None` if not, or if an operation set the
+/// pointer to null.
+fn look_of(
+    page: &ScriptPage<'_>,
+    line: u32,
+    kept: Option<Kept>,
+    run: &WatchedRun<'_>,
+) -> Option<Leave> {
+    match kept {
+        Some(Kept::ByOperation(_)) => None,
+        _ if may_come_of_leave(line, run) => overlooked_leave(page, run),
+        _ => None,
+    }
+}
+
+/// Says what to do about a panic that comes of no leave that was overlooked.
+fn put_help(
+    page: &mut ScriptPage<'_>,
+    line: u32,
+    raised: Raised,
+    kept: Option<Kept>,
+    run: &WatchedRun<'_>,
+) {
+    if let Some(kept) = kept {
+        return put_cure_of_kept(page, kept, run);
+    }
+    let help = help_of(page, line, raised, run);
+    if !help.is_empty() {
+        page.page.write_help_text(help);
+    }
 }
 
 /// Whether a panic may come of lines that a leave skipped, by what they would have made or would have made longer.

@@ -7,7 +7,7 @@ use std::io::{self, ErrorKind, Read, Write};
 /// kind `with`, or, if that is `None`, by taking no byte.
 #[derive(Drop)]
 pub(super) struct FailingOnce<S> {
-    stream: S,
+    pub(super) stream: S,
     at: usize,
     with: Option<ErrorKind>,
     pub(super) calls: usize,
