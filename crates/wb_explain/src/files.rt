@@ -3,7 +3,7 @@
 use std::alloc::{AllocError, Global};
 use std::io::ErrorKind;
 
-/// What is said of a file called `-`, which elsewhere stands for standard input.
+/// What is said about a file named `-`, because many programs take `-` for standard input.
 const INPUT_TIP: &str =
     "workbench: the script is read from standard input where no file is named\n";
 
@@ -15,7 +15,7 @@ pub enum Deed {
     Writing,
 }
 
-/// The line that says why a file, by its name, could not be opened, read or written.
+/// The line that names a file and says why it could not be opened, read or written.
 pub fn file_fault(
     alloc: Global,
     file: &str,
@@ -53,7 +53,7 @@ fn reason(deed: Deed, kind: ErrorKind) -> &'static str {
     }
 }
 
-/// What isn't there. For a file that is to be written, only its directory has to be there.
+/// What doesn't exist. A file that is to be written needs only an existing directory.
 fn not_found(deed: Deed) -> &'static str {
     match deed {
         Deed::Opening | Deed::Reading => "no such file",

@@ -1,6 +1,6 @@
-//! Explanations for people: what a run found, and where, and what became of a file, as text for standard error.
+//! Explanations for people, as text for standard error: what a run found and where, or what went wrong with a file.
 //!
-//! Plain functions from values to text. No report depends on them. Why a script is rejected is said by `wb_mistakes`.
+//! These are plain functions from values to text, and no report depends on them. `wb_mistakes` says why a script is rejected.
 #![tactic(auto)]
 
 pub mod files;

@@ -1,7 +1,7 @@
 //! What runs found: panics, leaks, what a failed attempt led to, which attempts a shorter heap refuses, what heaps of every length
 //! show, and cuts.
 //!
-//! What happened in a run, and at which lines, is known from its history (`wb_history`).
+//! A run's history (`wb_history`) says what happened in the run, and at which lines.
 
 mod attempts;
 mod blame;
@@ -22,6 +22,7 @@ mod items_left;
 mod kept;
 mod leaks;
 mod lengths;
+mod losses;
 mod number_lists;
 mod numbers;
 mod panics;
@@ -67,7 +68,7 @@ use wb_runs::lengths::LengthRange;
 use wb_runs::number_ends::NumberEnd;
 pub use worse::longest_better;
 
-/// Returns what a run found, with the lines of the script that it is about; empty if there is nothing to say. The only error is that memory
+/// Returns what a run found, with the script's lines that this is about; empty if there is nothing to say. The only error is that memory
 /// ran out.
 pub fn run_found(
     alloc: Global,
@@ -79,8 +80,8 @@ pub fn run_found(
     page.whole()
 }
 
-/// Returns which line made each attempt that a shorter heap refuses first: each attempt of `rises`; and what fills the heap at the last of
-/// them. `history` is that of the run without failure, with all that a picture draws. The only error is that memory ran out.
+/// Returns which line made each attempt of `rises`, which are those that shorter heaps refuse first, and what fills the heap at the last
+/// rise. `history` is the history of the run without failure, with all that a picture draws. The only error is that memory ran out.
 pub fn lengths_found(
     alloc: Global,
     lines: &ScriptLines<'_>,
@@ -93,9 +94,9 @@ pub fn lengths_found(
     page.whole()
 }
 
-/// Returns which line's attempt is refused first in the heaps whose runs leak or panic, in which heaps runs are cut, and where a longer heap
-/// does worse; empty if no run does any of this. `ranges` cover all lengths. `attempts` are those of the run in the longest heap, up to the
-/// first rise past `greatest_bad`; `None` if no run leaks or panics. `better` are those of the run in a heap of the length `longest_better`.
+/// Returns which line's attempt is refused first in the heaps whose runs leak or panic, in which heaps runs are cut, and which longer heap
+/// does worse; empty if no run does any of this. `ranges` cover all lengths. `attempts` are the attempts of the run in the longest heap, up
+/// to the first rise past `greatest_bad`; `None` if no run leaks or panics. `better` are the attempts in a heap of length `longest_better`.
 /// The only error is that memory ran out.
 pub fn heaps_found(
     alloc: Global,
@@ -113,8 +114,8 @@ pub fn heaps_found(
     page.whole()
 }
 
-/// Returns at which lines a failed attempt leads to a leak or a panic, according to the ends of all runs of a sweep; empty if none does.
-/// `attempts` are those of the run without failure, up to `last_bad`. The only error is that memory ran out.
+/// Returns at which lines a failed attempt leads to a leak or a panic, given how all runs of a sweep ended; empty if no attempt does so.
+/// `attempts` are the attempts of the run without failure, up to `last_bad`. The only error is that memory ran out.
 pub fn numbers_found(
     alloc: Global,
     lines: &ScriptLines<'_>,
@@ -127,7 +128,7 @@ pub fn numbers_found(
     page.whole()
 }
 
-/// Returns what is known after a search met more states than it may. The only error is that memory ran out.
+/// Returns what is known after a search met more states than are allowed. The only error is that memory ran out.
 pub fn states_found(
     alloc: Global,
     lines: &ScriptLines<'_>,
@@ -138,7 +139,7 @@ pub fn states_found(
     page.whole()
 }
 
-/// Returns what was shown by one of the further questions that a check tries unasked if it finds nothing, and the command that shows it.
+/// A check that finds nothing tries further questions. Returns what one of these questions showed, and the command that shows it.
 /// The only error is that memory ran out.
 pub fn unasked_found(
     alloc: Global,
@@ -151,7 +152,7 @@ pub fn unasked_found(
     page.whole()
 }
 
-/// Returns which further question of a check wasn't decided, and the command that asks it. The only error is that memory ran out.
+/// Returns which further question of a check stayed undecided, and the command that asks it. The only error is that memory ran out.
 pub fn undecided_question(
     alloc: Global,
     lines: &ScriptLines<'_>,

@@ -9,12 +9,12 @@ use wb_machine::Machine;
 /// How many of a run's first attempts are kept in any case.
 const MOST_ATTEMPTS: usize = 100_000;
 
-/// What is kept of a run besides what any explanation names.
+/// What is kept of a run in addition to what explanations name.
 #[derive(Clone, Copy, Debug, PartialEq, Eq)]
 pub enum Keep {
     /// Nothing more: of the attempts past the first 100,000, only those that the rule names are kept.
     Named,
-    /// The rises: of the attempts past the first 100,000, also those that shorter heaps refuse first.
+    /// The rises (attempts that a shorter heap refuses first): those past the first 100,000 are kept too.
     Rises,
     /// All that a picture draws: each attempt, and the run's `Course`.
     Drawn,
@@ -26,8 +26,8 @@ pub struct AttemptMade<'a> {
     pub attempt: Attempt,
     pub maker: Maker<'a>,
     pub step: u32,
-    /// Whether the attempt is a rise: it isn't made to fail, and its cell ends, or would end, past those of all earlier attempts that
-    /// weren't made to fail. A heap that is too short for it, but not for any attempt before it, refuses it first.
+    /// Whether the attempt is a rise. A rise isn't made to fail, and its cell ends, or would end, past the cells of all earlier attempts
+    /// that weren't made to fail. A heap that is too short for a rise, but long enough for all earlier attempts, refuses the rise first.
     pub is_rise: bool,
 }
 
@@ -36,7 +36,7 @@ impl<'a> AttemptMade<'a> {
         self.attempt.answer == Answer::Granted
     }
 
-    /// Returns where the cell ends, or would end, in bytes.
+    /// Returns where the attempt's cell ends, or would end, in bytes.
     pub fn top(&self) -> u32 {
         self.attempt.place.saturating_add(self.attempt.length)
     }
@@ -45,7 +45,7 @@ impl<'a> AttemptMade<'a> {
 /// How many attempts of a run failed, each counted once.
 #[derive(Clone, Copy, Debug, PartialEq, Eq)]
 pub struct FailedCounts {
-    /// Attempts that the rule makes fail or its limit denies, whether or not the script's own setting makes them fail too.
+    /// Attempts that fail because of the rule or its limit, even if the script's own setting makes them fail too.
     pub by_rule: u32,
     /// Attempts that only the script's own setting makes fail.
     pub by_script: u32,
@@ -54,7 +54,7 @@ pub struct FailedCounts {
 /// The attempts of a run.
 #[derive(Drop)]
 pub struct Attempts<'a> {
-    /// In order of their numbers.
+    /// The attempts that are kept, in order of their numbers.
     kept: Vec<AttemptMade<'a>>,
     rule: Rule,
     keep: Keep,
@@ -62,14 +62,14 @@ pub struct Attempts<'a> {
     /// Where the last rise ends, in bytes.
     top: u32,
     failed: FailedCounts,
-    /// The index in `kept` of the first attempt that the limit denied.
+    /// The index in `kept` of the first attempt that the limit refused.
     refused_at: Option<usize>,
-    /// Whether the newest attempt is kept, and the run hasn't gone on to another line since.
+    /// Whether the newest attempt is kept, and it isn't known yet at which other line the run went on.
     is_newest_open: bool,
 }
 
 impl<'a> Attempts<'a> {
-    /// No attempt of the run under this rule was made yet.
+    /// The run under this rule has made no attempt yet.
     pub fn new(alloc: Global, rule: Rule, keep: Keep) -> Attempts<'a> {
         Attempts {
             kept: Vec::new(alloc),
@@ -91,7 +91,7 @@ impl<'a> Attempts<'a> {
         self.count
     }
 
-    /// Returns where the last rise ends, in bytes; 0 before the first.
+    /// Returns where the last rise ends, in bytes; 0 before the first rise.
     pub fn top(&self) -> u32 {
         self.top
     }
@@ -106,7 +106,7 @@ impl<'a> Attempts<'a> {
         self.kept.as_slice()
     }
 
-    /// Returns the attempt with a number; `None` if the run didn't come to it, or if it isn't kept.
+    /// Returns the attempt with this number; `None` if the run didn't come to this attempt, or if it isn't kept.
     pub fn find(&self, number: u32) -> Option<AttemptMade<'a>> {
         let at = number.checked_sub(1)? as usize;
         if at < MOST_ATTEMPTS || self.keep == Keep::Drawn {
@@ -120,7 +120,7 @@ impl<'a> Attempts<'a> {
         None
     }
 
-    /// Returns the place past which the rule grants nothing, in bytes.
+    /// Returns the place, in bytes, past which no cell may end under the rule.
     pub fn bound(&self) -> u32 {
         match &self.rule {
             Rule::Limit(limit) => *limit,
@@ -128,12 +128,12 @@ impl<'a> Attempts<'a> {
         }
     }
 
-    /// Returns the first attempt that the limit denied; `None` if it denied none.
+    /// Returns the first attempt that the limit refused; `None` if it refused none.
     pub fn first_refused(&self) -> Option<AttemptMade<'a>> {
         self.kept.get(self.refused_at?).copied()
     }
 
-    /// Sees the attempt that the last machine turn made, and returns it; `None` if that turn made none.
+    /// Records the attempt that the last machine turn made, and returns this attempt; `None` if the turn made none.
     pub fn see_newest(&mut self, machine: &Machine<'a>) -> Result<Option<Attempt>, AllocError> {
         if self.count >= machine.attempts() {
             return Ok(None);
@@ -141,7 +141,7 @@ impl<'a> Attempts<'a> {
         self.see_last(machine)
     }
 
-    /// Sees the attempt that was made last.
+    /// Records the attempt that was made last, and returns it.
     #[inline(never)]
     fn see_last(&mut self, machine: &Machine<'a>) -> Result<Option<Attempt>, AllocError> {
         let newest = machine.last_attempt();
@@ -181,7 +181,7 @@ impl<'a> Attempts<'a> {
         Ok(())
     }
 
-    /// Sees a machine turn after the newest attempt: the line that was begun last, and whether that line is in a body that undoes.
+    /// Records a turn after the newest attempt: `line` was begun last, and `undoes` says whether it is in an operation or a destructor.
     pub fn see_turn(&mut self, line: u32, undoes: bool) {
         if !self.is_newest_open {
             return;
@@ -192,7 +192,7 @@ impl<'a> Attempts<'a> {
         }
     }
 
-    /// Whether the rule names an attempt: by its number, as the first multiple of a rate, or as the first attempt that a limit denies.
+    /// Whether the rule names an attempt: by its number, as the first multiple of a rate, or as the first attempt that a limit refuses.
     fn is_named(&self, attempt: Attempt) -> bool {
         match &self.rule {
             Rule::Unlimited => false,

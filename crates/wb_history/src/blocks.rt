@@ -1,10 +1,10 @@
 //! The blocks of a run that are open: its TRAPs, its `repeat`s with the turns that each has left, and the items that are still to be
 //! destroyed.
 //!
-//! Which blocks are open follows from the lines that begin, so nothing has to go over all that is pending in the machine. A line that
-//! begins ends every block that it isn't in, except for those of the bodies that called its own. A machine turn that begins no line belongs
-//! to the innermost block that has turns or items left, and ends the blocks inside that one. So before each machine turn it is known which
-//! TRAPs the previous one ended.
+//! Which blocks are open follows from the lines that begin, so the machine's pending work never has to be searched. A line that
+//! begins ends every open block that doesn't contain it, except the blocks of the bodies that called the line's body. A machine turn that
+//! begins no line belongs to the innermost block that has turns or items left, and ends the blocks inside this block. So before each
+//! machine turn it is known which TRAPs the previous turn ended.
 
 use std::alloc::{AllocError, Global};
 use wb_tree::script::{Body, Script, Statement, StatementAt};
@@ -12,15 +12,15 @@ use wb_tree::script::{Body, Script, Statement, StatementAt};
 /// A block that is open.
 #[derive(Clone, Copy)]
 struct Block {
-    /// How many bodies run where the block is, and how many blocks of its body the block's own line is in.
+    /// How many bodies run at the block, and how many blocks of the same body enclose the block's own line.
     depth: u32,
     nesting: u32,
     is_trap: bool,
-    /// How many turns or items are left; 0 of a TRAP.
+    /// How many turns or items are left; 0 for a TRAP.
     left: u32,
 }
 
-/// Lines, and how many blocks of their body they are in.
+/// Lines, and how many blocks of their body enclose them.
 #[derive(Clone, Copy)]
 struct Lines<'s> {
     nesting: u32,
@@ -30,7 +30,7 @@ struct Lines<'s> {
 /// The blocks of a run that are open.
 #[derive(Drop)]
 pub struct Blocks {
-    /// For each line, how many blocks (TRAPs and `repeat`s) of its body it is in. Lines past the end of this list are in none.
+    /// For each line, how many blocks (TRAPs and `repeat`s) of its body enclose the line. No block encloses a line past this list's end.
     nestings: Vec<u32>,
     /// The open blocks, the innermost last.
     open: Vec<Block>,
@@ -90,7 +90,7 @@ impl Blocks {
         self.is_object_next = true;
     }
 
-    /// A machine turn comes that begins no line.
+    /// The next machine turn begins no line.
     #[inline(never)]
     pub fn go_on(&mut self) {
         if self.is_object_next {
@@ -108,7 +108,7 @@ impl Blocks {
         }
     }
 
-    /// The innermost of `depth` bodies returns.
+    /// The innermost of `depth` running bodies returns.
     pub fn end_body(&mut self, depth: u32) {
         for _ in 0..self.open.len() {
             if let Some(last) = self.open.last()
@@ -120,8 +120,8 @@ impl Blocks {
         }
     }
 
-    /// A leave ends the innermost TRAP and all blocks inside it; if no TRAP is open, it ends all blocks. Then `items` items are to be
-    /// destroyed.
+    /// A leave ends the innermost TRAP and all blocks inside it; if no TRAP is open, the leave ends all blocks. After that, `items` items
+    /// are to be destroyed.
     pub fn leave(&mut self, items: u32) -> Result<(), AllocError> {
         let mut at = Block {
             depth: 1,
@@ -153,7 +153,7 @@ impl Blocks {
         Ok(())
     }
 
-    /// Ends the blocks that a line isn't in. The line begins while `depth` bodies run.
+    /// Ends the open blocks that don't contain a line, except blocks of calling bodies. The line begins while `depth` bodies run.
     fn end_before(&mut self, depth: u32, line: u32) {
         let nesting = self.nesting_of(line);
         for _ in 0..self.open.len() {
@@ -174,13 +174,13 @@ impl Blocks {
         Some(last)
     }
 
-    /// How many blocks of its body a line is in.
+    /// How many blocks of its body enclose a line.
     fn nesting_of(&self, line: u32) -> u32 {
         self.nestings.get(line as usize).copied().unwrap_or(0)
     }
 }
 
-/// For each line of a script, how many blocks of its body it is in; the list ends with the last line that is in any.
+/// For each line of a script, how many blocks of its body enclose the line. The list ends with the last line that a block encloses.
 fn nestings_of(alloc: Global, script: &Script) -> Result<Vec<u32>, AllocError> {
     let mut rest = bodies_of(alloc, script)?;
     let mut nestings = Vec::new(alloc);
@@ -229,7 +229,7 @@ fn add_block<'s>(
     Ok(())
 }
 
-/// Notes how many blocks these lines are in, and adds the lines of the blocks that they begin.
+/// Notes how many blocks enclose these lines, and adds to `rest` the lines of the blocks that these lines begin.
 fn add_lines<'s>(
     nestings: &mut Vec<u32>,
     rest: &mut Vec<Lines<'s>>,
@@ -244,7 +244,7 @@ fn add_lines<'s>(
     Ok(())
 }
 
-/// Adds the lines of the blocks that a statement begins. Lines inside an `if` are in no more blocks than the `if` itself.
+/// Adds the lines inside a statement. A TRAP or a `repeat` counts as one more block around these lines, and an `if` doesn't count.
 fn add_inner<'s>(
     rest: &mut Vec<Lines<'s>>,
     statement: &'s Statement,

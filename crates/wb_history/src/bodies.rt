@@ -9,14 +9,14 @@ pub enum BodyKind {
     /// No body: lines before the first body.
     Nothing,
     Procedure,
-    /// The second phase of a class.
+    /// The second phase of a class's construction.
     Construct,
     Destructor,
     Operation,
 }
 
 impl BodyKind {
-    /// Whether bodies of this kind undo what was done: a leave runs them when it destroys items.
+    /// Whether bodies of this kind undo what was done. A leave runs such bodies when it destroys items.
     fn undoes(self) -> bool {
         match self {
             BodyKind::Operation | BodyKind::Destructor => true,
@@ -29,11 +29,11 @@ impl BodyKind {
 #[derive(Clone, Copy, Debug, PartialEq, Eq, PartialOrd, Ord)]
 pub struct BodyOfScript {
     pub kind: BodyKind,
-    /// The line that begins the procedure, the operation, or the class of the body. Its second word is the name.
+    /// The line that begins the body's procedure, operation or class. The second word of this line is the name.
     pub line: u32,
 }
 
-/// A body as it is found: by the first line that is surely in it.
+/// A body, and the first line that counts as a line of this body.
 #[derive(Clone, Copy, PartialEq, Eq, PartialOrd, Ord)]
 struct Part {
     from: u32,
@@ -43,11 +43,11 @@ struct Part {
 /// The bodies of a script.
 #[derive(Drop)]
 pub struct Bodies {
-    /// In order of their lines.
+    /// The bodies, in order of their lines.
     parts: Vec<Part>,
-    /// For each line before the last body, whether it is in a body that undoes.
+    /// For each line before the last body, whether the line is in an operation or a destructor.
     undoing: Vec<bool>,
-    /// Whether the last body undoes.
+    /// Whether the last body is an operation or a destructor.
     undoes_at_end: bool,
 }
 
@@ -96,7 +96,7 @@ impl Bodies {
         }
     }
 
-    /// Finds which lines are in a body that undoes.
+    /// Finds which lines are in an operation or a destructor.
     fn find_undoing(&mut self) -> Result<(), AllocError> {
         for part in self.parts.as_slice() {
             self.undoing.resize(part.from as usize, self.undoes_at_end)?;
@@ -111,7 +111,7 @@ impl Bodies {
         Ok(())
     }
 
-    /// Adds the bodies of a class. The second phase comes before the destructor, so it counts from the class's own line on.
+    /// Adds the bodies of a class. The second phase comes before the destructor, so the second phase counts from the class's own line on.
     fn add_class(&mut self, class: &Class) -> Result<(), AllocError> {
         self.add(class.line, BodyKind::Construct, class.line)?;
         if let Some(body) = &class.destroy

@@ -1,4 +1,4 @@
-//! Which bodies run, by the line that each is at, and call paths: the lines from `main` down to where something happened.
+//! Which bodies run, and at which line each of them is; and call paths: the lines from `main` down to where something happened.
 
 use crate::statements::NULL;
 use std::alloc::{AllocError, Global};
@@ -6,10 +6,10 @@ use wb_basics::limits::MOST_FRAMES;
 use wb_heap_model::heap::Ptr;
 use wb_tree::script::Statement;
 
-/// The most calls that are kept. What a further call leads to has a line, but no call path.
+/// The most calls that are kept. Whatever happens inside a further call has a line, but no call path.
 const MOST_CALLS: usize = 100_000;
 
-/// A body that runs, or the last one that ran at its depth.
+/// A body that runs, or the last body that ran at this depth.
 #[derive(Clone, Copy)]
 struct Frame<'a> {
     stay: Stay,
@@ -18,16 +18,16 @@ struct Frame<'a> {
     replaced: Ptr,
     /// The step in which the body began.
     since: u32,
-    /// The call path to that line, if `known` says that the frame has it.
+    /// The call path to the line `stay.last`, if `known` says that this frame has its path.
     path: u32,
 }
 
-/// What a body left of the cleanup stack.
+/// How many items were on the cleanup stack while a body ran.
 #[derive(Clone, Copy, Debug, PartialEq, Eq)]
 pub struct Stay {
-    /// The line that was begun last in the body; 0 if none was.
+    /// The line that was begun last in the body; 0 if no line was.
     pub last: u32,
-    /// How many items there were when it began, the most when one of its lines began, and how many when it ended.
+    /// How many items there were when the body began, the most when one of its lines began, and how many when the body ended.
     pub began: usize,
     pub most: usize,
     pub ended: usize,
@@ -42,20 +42,20 @@ struct Call {
 
 /// The bodies that run, and the call paths of all that happened.
 pub struct Calls<'a> {
-    /// By depth, 1 for `main`.
+    /// The frames, indexed by depth; `main` has the depth 1.
     frames: Vec<Frame<'a>>,
     /// How many bodies ran when the last statement began.
     depth: u32,
-    /// A call path is the index here of its last call. Index 0 is the empty path.
+    /// The calls. A call path is the index of its last call in this list; the index 0 is the empty path.
     calls: Vec<Call>,
-    /// For each line, the newest path that ends with it.
+    /// For each line, the newest path that ends with this line.
     newest: Vec<u32>,
     /// How many of the bodies, counted from `main`, have their call paths in their frames. Frames get paths only when no more calls can be
     /// kept: until then a path is looked up anew each time.
     known: u32,
 }
 
-/// Written by hand, so that a proof about a function that drops such a value has a single call there, and only this function goes over
+/// Written by hand, so that dropping such a value is a single call in a proof. Only this function goes over
 /// the fields.
 impl Drop for Calls<'_> {
     fn drop(self) {
@@ -83,7 +83,7 @@ impl<'a> Calls<'a> {
         })
     }
 
-    /// A statement begins in this step, while `depth` bodies run and the cleanup stack has this many items.
+    /// A statement begins in the step `step`, while `depth` bodies run and the cleanup stack has `items` items.
     pub fn begin(
         &mut self,
         depth: u32,
@@ -133,14 +133,14 @@ impl<'a> Calls<'a> {
         self.depth
     }
 
-    /// A `callto` begins, while `depth` bodies run. Its target still names `names`.
+    /// A `callto` begins, while `depth` bodies run. The call's target still names `names`.
     pub fn replace(&mut self, depth: u32, names: Ptr) {
         if let Some(frame) = self.frames.get_mut(depth as usize) {
             frame.replaced = names;
         }
     }
 
-    /// Returns what the target of the last `callto` at this depth named before the call; null if there was none.
+    /// Returns what the target of the last `callto` at this depth named before the call; null if there was no `callto`.
     pub fn replaced_at(&self, depth: u32) -> Ptr {
         match self.frames.get(depth as usize) {
             Some(frame) => frame.replaced,
@@ -148,7 +148,7 @@ impl<'a> Calls<'a> {
         }
     }
 
-    /// Returns the line that was begun last at this depth, which is 1 in `main`; 0 if none was.
+    /// Returns the line that was begun last at this depth; 0 if no line was. The depth of `main` is 1.
     pub fn line_at(&self, depth: u32) -> u32 {
         match self.frames.get(depth as usize) {
             Some(frame) => frame.stay.last,
@@ -157,7 +157,7 @@ impl<'a> Calls<'a> {
     }
 
     /// Returns the line that was begun last by the body that ran at this depth in this step; 0 if another body has begun at this depth
-    /// since.
+    /// since then.
     pub fn last_line_of(&self, depth: u32, step: u32) -> u32 {
         match self.frames.get(depth as usize) {
             Some(frame) if frame.since <= step => frame.stay.last,
@@ -165,25 +165,30 @@ impl<'a> Calls<'a> {
         }
     }
 
-    /// Returns what the body that ran last at this depth left of the cleanup stack; `None` if none ran.
+    /// Returns the `Stay` of the body that ran last at this depth; `None` if no body ran there.
     pub fn stay_at(&self, depth: u32) -> Option<Stay> {
         Some(self.frames.get(depth as usize)?.stay)
     }
 
-    /// Returns what the body that ran at this depth in this step left, if it has ended with more items than it began with and returned no
-    /// pointer; `None` if it did not, or if another body has begun at this depth since.
+    /// Looks at the body that ran at this depth in this step, then at its callers. Returns the first that has ended with more items than it
+    /// began with, and returned no pointer. `None` if there is none, or if other bodies have begun at these depths since.
     pub fn left_by(&self, depth: u32, step: u32) -> Option<Stay> {
-        let frame = self.frames.get(depth as usize)?;
-        let has_left = frame.stay.began < frame.stay.ended && frame.since <= step;
-        match frame.statement {
-            Some(Statement::ReturnPointer(_)) => None,
-            _ if has_left && self.depth < depth => Some(frame.stay),
-            _ => None,
+        let mut at = depth;
+        for _ in self.depth..depth {
+            if let Some(frame) = self.frames.get(at as usize)
+                && frame.stay.began < frame.stay.ended
+                && frame.since <= step
+                && !matches!(frame.statement, Some(Statement::ReturnPointer(_)))
+            {
+                return Some(frame.stay);
+            }
+            at = at.saturating_sub(1);
         }
+        None
     }
 
-    /// Returns what the body that ran last at this depth left, if it began after this step and ended with as many items as it began with;
-    /// `None` if it did not.
+    /// Returns the `Stay` of the body that ran last at this depth, if this body began after this step and has ended with as many items as
+    /// at its start; `None` otherwise.
     pub fn left_none_at(&self, depth: u32, step: u32) -> Option<Stay> {
         let frame = self.frames.get(depth as usize)?;
         let stay = frame.stay;
@@ -194,7 +199,7 @@ impl<'a> Calls<'a> {
         }
     }
 
-    /// Returns the statement that was begun last at this depth; `None` if none was.
+    /// Returns the statement that was begun last at this depth; `None` if no statement was.
     pub fn statement_at(&self, depth: u32) -> Option<&'a Statement> {
         self.frames.get(depth as usize)?.statement
     }
@@ -213,7 +218,7 @@ impl<'a> Calls<'a> {
         Ok(path)
     }
 
-    /// Returns the path `before` with the lines that were begun last from the depth `from` to the depth `to`. The only error is that memory
+    /// Returns the path `before`, extended by the line that was begun last at each depth from `from` to `to`. The only error is that memory
     /// ran out.
     pub fn path_on(&mut self, before: u32, from: u32, to: u32) -> Result<u32, AllocError> {
         let mut path = before;
@@ -257,7 +262,7 @@ impl<'a> Calls<'a> {
         Ok(lines)
     }
 
-    /// The path `before` with one more line; the empty path if that takes a further call and no more can be kept.
+    /// The path `before` with one more line; the empty path if this needs a new call and no more calls can be kept.
     fn longer(&mut self, before: u32, line: u32) -> Result<u32, AllocError> {
         let known = self.newest.get(line as usize).copied().unwrap_or(0);
         if let Some(call) = self.calls.get(known as usize)

@@ -1,4 +1,4 @@
-//! Which cells a failed heap check counted, read off the machine that the check stopped.
+//! Which cells a failed heap check counted. They are read from the machine that the check stopped.
 
 use std::alloc::{AllocError, Global};
 use wb_heap_model::heap::{Kind, Panic, Ptr};
@@ -14,7 +14,7 @@ pub struct Counted {
     /// How many cells the check expected, and how many it found.
     pub expected: i32,
     pub found: u32,
-    /// The lowest of the cells that it found, in order of their places.
+    /// The lowest of the cells that the check found, in order of their places.
     pub cells: Vec<Ptr>,
 }
 

@@ -6,7 +6,7 @@ use std::alloc::{AllocError, Global};
 use wb_heap_model::heap::{Header, Kind, Ptr};
 use wb_machine::Machine;
 
-/// Stands for the step at which a part ends, if it hasn't ended yet.
+/// Stands for the step at which a part ends, if the part hasn't ended yet.
 pub const NEVER: u32 = u32::MAX;
 
 /// How a part of a cell's life ends.
@@ -34,11 +34,11 @@ pub struct Part {
     pub attempt: u32,
     /// The line that the part begins with; 0 for the cleanup stack's first cell.
     pub line: u32,
-    /// The step that the part begins with, and the one that ends it; `NEVER` if none does.
+    /// The step that the part begins with, and the step that ends the part; `NEVER` if no step does.
     pub from: u32,
     pub gone: u32,
     pub end: PartEnd,
-    /// The index of the part before this one: of the same cell, or of the cell that moved to this place.
+    /// The index of the cell's previous part, at this place or at the place from which the cell moved; `None` if there is none.
     pub before: Option<usize>,
     /// Whether the cell is a leak of the run.
     pub leaks: bool,
@@ -68,7 +68,7 @@ pub struct PartStart {
 pub struct Course {
     is_wanted: bool,
     parts: Vec<Part>,
-    /// For each cell, by its allocation number, the index of its last part, counted from 1; 0 if it has none.
+    /// For each cell, by its allocation number, the index of its last part, counted from 1; 0 if the cell has no part.
     latest: Vec<u32>,
     pub committed: Series,
     pub levels: Series,
@@ -76,7 +76,7 @@ pub struct Course {
     pub items: Series,
 }
 
-/// Written by hand, so that a proof about a function that drops such a value has a single call there, and only this function goes over
+/// Written by hand, so that dropping such a value is a single call in a proof. Only this function goes over
 /// the fields.
 impl Drop for Course {
     fn drop(self) {
@@ -93,7 +93,7 @@ impl Drop for Course {
 }
 
 impl Course {
-    /// Nothing has happened yet. If the course isn't wanted, nothing is kept later either.
+    /// Nothing has happened yet. If the course isn't wanted, it stays empty.
     pub fn new(alloc: Global, is_wanted: bool) -> Course {
         Course {
             is_wanted,
@@ -111,7 +111,7 @@ impl Course {
         self.parts.as_slice()
     }
 
-    /// Notes the numbers as they are after a machine turn, except for how many TRAPs are open.
+    /// Notes the course's numbers after a machine turn, except for the number of open TRAPs.
     #[inline(always)]
     pub(crate) fn see_numbers(&mut self, machine: &Machine<'_>) -> Result<(), AllocError> {
         if !self.is_wanted {
@@ -133,13 +133,13 @@ impl Course {
             .note(step, u32::try_from(count).unwrap_or(u32::MAX))
     }
 
-    /// Sees a cell that was just granted. `old` is what named the cell before it moved; null if it is a new cell.
+    /// Records a cell that was just granted. `old` is the pointer that named the cell before it moved; null for a new cell.
     pub fn begin(&mut self, cell: Header, start: PartStart, old: Ptr) -> Result<(), AllocError> {
         let before = self.index_of(old.number);
         self.add(cell, start, before)
     }
 
-    /// Sees that a live cell was resized at its place, or that an attempt was granted the length that the cell already had.
+    /// Records that a live cell was resized at its place, or that an attempt was granted though the cell's length stays the same.
     pub fn resize(&mut self, cell: Header, start: PartStart) -> Result<(), AllocError> {
         let index = self.index_of(cell.number);
         if let Some(index) = index
@@ -153,7 +153,7 @@ impl Course {
         self.add(cell, start, index)
     }
 
-    /// Sees that a cell's life ended.
+    /// Records that a cell's life ended.
     pub fn end(&mut self, cell: Ptr, step: u32, end: End) {
         if let Some(index) = self.index_of(cell.number)
             && let Some(part) = self.parts.get_mut(index)

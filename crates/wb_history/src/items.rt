@@ -1,18 +1,23 @@
 //! The items on the cleanup stack, and where each was pushed.
 
-use crate::calls::Stay;
+use crate::calls::{Calls, Stay};
 use crate::moments::{Moment, ShortLine};
 use std::alloc::{AllocError, Global};
 use wb_heap_model::heap::{Item, Ptr};
+
+/// The most items that are checked when bodies end, counted from the newest item.
+const MOST_LEFT: usize = 8;
 
 /// An item on the cleanup stack, and when it was pushed.
 #[derive(Clone, Copy, Debug, PartialEq, Eq)]
 pub struct ItemOnStack {
     pub item: Item,
     pub pushed: Moment,
-    /// How many bodies ran when it was pushed.
+    /// How many bodies ran when the item was pushed.
     pub depth: u32,
-    /// The pop that last took off the item above it; `None` if none did.
+    /// The first body that left the item on the cleanup stack when it ended, and returned no pointer; `None` if there is no such body.
+    pub left: Option<Stay>,
+    /// The last pop that took off an item just above this item; `None` if there was none.
     pub above: Option<Popped>,
 }
 
@@ -32,12 +37,12 @@ impl ItemOnStack {
     }
 }
 
-/// An item that a line took off, though another body had pushed it, or had been called since then.
+/// An item that a line took off the stack, though another body had pushed the item, or had been called in between.
 #[derive(Clone, Copy, Debug, PartialEq, Eq)]
 pub struct Taken {
     pub line: u32,
     pub pushed: u32,
-    /// The body that took off an item of its caller; or the one that had left the item to its caller; or the one that was called in between.
+    /// The body that took off an item of its caller, or the body that left the item to its caller, or the body that was called in between.
     pub body: Stay,
 }
 
@@ -45,15 +50,15 @@ pub struct Taken {
 #[derive(Drop)]
 pub struct Items {
     items: Vec<ItemOnStack>,
-    /// The item of a calling body that was taken off last, and the last one that a body had left which had ended; `None` if there is none.
+    /// The last item of a calling body that was taken off, and the last item left by an ended body that was taken off; else `None`.
     pub of_caller: Option<Taken>,
     pub of_callee: Option<Taken>,
-    /// The last item that was taken off by the body that had pushed it, after a body that it called had left none; `None` if there is none.
+    /// The last item that a body pushed and took off itself, after it had called a body that left no item; `None` if there is none.
     pub after_callee: Option<Taken>,
 }
 
 impl Items {
-    /// No item yet.
+    /// No item has been pushed yet.
     pub fn new(alloc: Global) -> Items {
         Items {
             items: Vec::new(alloc),
@@ -67,14 +72,37 @@ impl Items {
         self.items.as_slice()
     }
 
-    /// Returns how many there are.
+    /// Returns how many items there are.
     pub fn count(&self) -> usize {
         self.items.len()
     }
 
-    /// Returns the newest; `None` if there is none.
+    /// Returns the newest item; `None` if there is none.
     pub fn newest(&self) -> Option<ItemOnStack> {
         self.items.last().copied()
+    }
+
+    /// Returns the oldest item of a pointer; `None` if the pointer has no item.
+    pub fn find(&self, pointer: Ptr) -> Option<ItemOnStack> {
+        for item in self.items.as_slice() {
+            if item.pointer() == pointer {
+                return Some(*item);
+            }
+        }
+        None
+    }
+
+    /// Notes which of the bodies that just ended left the newest items. `calls` must already know that these bodies ended.
+    pub fn note_left(&mut self, calls: &Calls<'_>) {
+        let count = self.items.len();
+        for back in 1..=count.min(MOST_LEFT) {
+            if let Some(at) = count.checked_sub(back)
+                && let Some(item) = self.items.get_mut(at)
+                && item.left.is_none()
+            {
+                item.left = calls.left_by(item.depth, item.pushed.step);
+            }
+        }
     }
 
     /// A line pushes an item, while `depth` bodies run.
@@ -83,12 +111,13 @@ impl Items {
             item,
             pushed,
             depth,
+            left: None,
             above: None,
         })?;
         Ok(())
     }
 
-    /// A line pops the newest. Returns the item; `None` if there is none.
+    /// A line pops the newest item. Returns this item; `None` if there is none.
     pub fn pop_by(&mut self, line: u32) -> Option<ItemOnStack> {
         let Some(item) = self.items.pop() else {
             return None;
@@ -103,7 +132,7 @@ impl Items {
         Some(item)
     }
 
-    /// Takes the newest off; `None` if there is none.
+    /// Takes the newest item off, and returns it; `None` if there is none.
     pub fn pop(&mut self) -> Option<ItemOnStack> {
         self.items.pop()
     }

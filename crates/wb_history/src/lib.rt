@@ -1,28 +1,28 @@
-//! What happened in a run, for the crates that explain it or draw it. Outside of every theorem: no report depends on it, and nothing here
-//! is text for people.
+//! What happened in a run, for the crates that explain or draw the run. No theorem is about this history, and no report depends on it.
+//! Nothing here is text for people.
 //!
 //! `watch_run` runs a script once with given `RunParameters`, one machine turn after another, and keeps a `History`:
 //!
 //! - `Attempts`: each attempt, with the line and the statement that made it;
-//! - `Lives`: each cell: the lines at which it was made, grown, pushed, popped and moved, the pointer that got it last, and how it ended;
+//! - `Lives`: each cell: the lines at which it was made, grown, pushed, popped and moved, the pointer last set to it, and how it ended;
 //! - `Items`: the items on the cleanup stack, each with where it was pushed;
 //! - `Traps`: the TRAPs that are open, with their lines; and each leave, with the TRAP that caught it;
-//! - `Marks`: the heap marks that are open, with their lines and the leaves that went past their ends;
+//! - `Marks`: the heap marks that are open, with their lines and the leaves that skipped their ends;
 //! - `Views`: which cell's text each view shows;
-//! - `Writes`: for each line that writes a pointer, what it wrote last;
+//! - `Writes`: for each line that writes a pointer, what the line wrote last;
 //! - `Calls`: which bodies run, and the call paths to pushed items, to leaves and to the run's end;
 //! - `Course`: if a picture is wanted, each part of each cell's life, and a few numbers over time.
 //!
-//! `watch_attempts` makes only a part of a run, and keeps the attempts alone.
+//! `watch_attempts` runs a script only up to a given point, and keeps only the attempts.
 //!
-//! When the run is over, `WatchedRun` adds its outcome and, if it panicked, what raised the panic and the pointer, the values or the cells
-//! that the panic is about.
+//! When the run is over, `WatchedRun` adds the run's outcome. For a run that panicked, `WatchedRun` also adds what raised the panic, and
+//! which pointer, values or cells the panic is about.
 //!
-//! Before a machine turn, the machine says which statement the turn is to begin, and what the statement's pointers name; after the turn,
-//! what became of them. So watching a turn costs a few looks at single cells, and never a look at all of them. Of most statements, such as
-//! `add`, only the line is kept (`quiet`). The memory for a history is bounded: a life takes a few words. Past 100,000 attempts, only those
-//! that the rule names are kept, and besides them the rises, or all attempts for a picture, if these are wanted; past 100,000 lives, a new
-//! life replaces the newest at its place; past 100,000 calls, no new call path is kept.
+//! Before a machine turn, the machine says which statement the turn is to begin, and what the statement's pointers name. After the turn,
+//! the machine shows what became of these pointers' cells. So watching a turn costs a few looks at single cells, and never a look at all
+//! cells. For most statements, such as `add`, only the line is kept (`quiet`). The memory for a history is bounded, and a life takes a few
+//! words. Of the attempts past the first 100,000, only those that the rule names are kept; `Keep` can add the rises, or all attempts. Past
+//! 100,000 lives, a new life replaces the newest life at its place. Past 100,000 calls, no new call path is kept.
 #![tactic(auto)]
 
 mod attempts;
@@ -72,4 +72,4 @@ pub use turns::History;
 pub use values::{Meant, Values};
 pub use views::Views;
 pub use watch::{EndOfRun, Until, WatchedRun, machine_of, watch_attempts, watch_run};
-pub use writes::{PointerWrite, Writes};
+pub use writes::{NullOf, PointerWrite, Writes};

@@ -9,7 +9,7 @@ pub struct ScriptFile<'a> {
     pub text: &'a str,
 }
 
-/// The lines of a script's file, split once, and the names of its classes, in the order in which the file declares them.
+/// The lines of a script's file, which is split only once, and the names of its classes, in the order in which the file declares them.
 #[derive(Drop)]
 pub struct ScriptLines<'a> {
     pub name: &'a str,
@@ -18,7 +18,7 @@ pub struct ScriptLines<'a> {
 }
 
 impl<'a> ScriptLines<'a> {
-    /// Splits a file. The only error is that memory ran out.
+    /// Splits a file into lines. The only error is that memory ran out.
     pub fn of(alloc: Global, file: ScriptFile<'a>) -> Result<ScriptLines<'a>, AllocError> {
         let mut found = ScriptLines {
             name: file.name,
@@ -43,7 +43,7 @@ impl<'a> ScriptLines<'a> {
         Ok(())
     }
 
-    /// Returns the names of the classes, by their indexes.
+    /// Returns the names of the classes, in order of the classes' indexes.
     pub fn class_names(&self) -> &[&'a str] {
         self.classes.as_slice()
     }

@@ -1,10 +1,10 @@
-//! The life of each cell: at which lines it was made, grown, pushed and popped, which pointer got it last, and how its life ended.
+//! The life of each cell: at which lines it was made, grown, pushed and popped, which pointer was last set to it, and how its life ended.
 
 use crate::moments::{Held, ShortLine};
 use std::alloc::{AllocError, Global};
 use wb_heap_model::heap::{Header, Kind, Ptr};
 
-/// How many of the first lives are kept in any case. Past them, a new life replaces the newest one at the same place.
+/// The number of lives after which a new life replaces the newest life at the same place.
 const MOST_LIVES: usize = 100_000;
 
 /// How a cell's life ends.
@@ -25,7 +25,7 @@ pub enum Origin {
     Made,
     /// A line that reallocates: the cell may be one that moved.
     Reallocated,
-    /// A line that reallocates, by which a cell moved though it had room to grow at its place.
+    /// A line that reallocates, and that moved a cell though the cell had room to grow at its place.
     MovedWithRoom,
 }
 
@@ -34,9 +34,9 @@ pub enum Origin {
 pub enum By {
     /// The line itself.
     Line,
-    /// The cleanup stack, for a `popdestroy`.
+    /// The cleanup stack, because of a `popdestroy`.
     PopDestroy,
-    /// The cleanup stack, for a leave.
+    /// The cleanup stack, because of a leave.
     Leave,
 }
 
@@ -46,12 +46,12 @@ pub struct Ended {
     pub end: End,
     pub by: By,
     pub at: ShortLine,
-    /// Whether the cell moved though it had room to grow at its place: it moved only because the heap is a moving one.
+    /// Whether the cell moved though it had room to grow at its place. Such a cell moves only in a heap that moves each cell that grows.
     pub had_room: bool,
 }
 
-/// The life of a cell at one place; a cell that moves begins another life. Of what happened to the cell only the lines are kept, in two
-/// bytes each: a run may have half a million lives.
+/// The life of a cell at one place; a cell that moves begins another life. For most events of a life, only the line is kept, in two
+/// bytes, because a run may have half a million lives.
 #[derive(Clone, Copy, Debug, PartialEq, Eq)]
 pub struct Life {
     pub pointer: Ptr,
@@ -60,16 +60,16 @@ pub struct Life {
     pub kind: Kind,
     pub origin: Origin,
     pub made: ShortLine,
-    /// The line at which the cell grew last, at its place.
+    /// The line at which the cell last grew at its place.
     pub grown: ShortLine,
-    /// The line that put the cell on the cleanup stack last, and the line that popped that item.
+    /// The line that last put the cell on the cleanup stack, and the line that popped this item.
     pub pushed: ShortLine,
     pub popped: ShortLine,
-    /// The local or field that got the cell last, and the line at which that pointer got another value.
+    /// The local or field that was last set to the cell, and the line that then gave this local or field another value.
     pub held: Option<Held>,
     pub overwritten: ShortLine,
     pub ended: Option<Ended>,
-    /// The previous life at the same place, by an index from 1; 0 if there is none.
+    /// The index, counted from 1, of the previous life at the same place; 0 if there is none.
     before: u32,
 }
 
@@ -100,11 +100,11 @@ impl Life {
 /// The lives of a run's cells.
 pub struct Lives {
     all: Vec<Life>,
-    /// For each place, divided by 16, the newest life there, by an index from 1; 0 if there is none.
+    /// For each place divided by 16, the index, counted from 1, of the newest life at this place; 0 if there is none.
     newest: Vec<u32>,
 }
 
-/// Written by hand, so that a proof about a function that drops such a value has a single call there, and only this function goes over
+/// Written by hand, so that dropping such a value is a single call in a proof. Only this function goes over
 /// the fields.
 impl Drop for Lives {
     fn drop(self) {
@@ -113,7 +113,7 @@ impl Drop for Lives {
 }
 
 impl Lives {
-    /// No cell yet.
+    /// No cell has been made yet.
     pub fn new(alloc: Global) -> Lives {
         Lives {
             all: Vec::new(alloc),
@@ -156,7 +156,7 @@ impl Lives {
         Ok(())
     }
 
-    /// Notes that a live cell has grown at its place, or become shorter, by a line.
+    /// Notes that a line made a live cell longer or shorter at its place.
     pub fn resize(&mut self, cell: Header, line: u32) {
         if let Some(life) = self.live_mut(cell.pointer()) {
             if life.length < cell.length {
@@ -166,7 +166,7 @@ impl Lives {
         }
     }
 
-    /// Notes that a pointer to a live cell was put on the cleanup stack by a line.
+    /// Notes that a line put a pointer to a live cell on the cleanup stack.
     pub fn push(&mut self, pointer: Ptr, line: u32) {
         if let Some(life) = self.live_mut(pointer) {
             life.pushed = ShortLine::of(line);
@@ -174,14 +174,14 @@ impl Lives {
         }
     }
 
-    /// Notes that the item of a live cell was popped by a line.
+    /// Notes that a line popped the item of a live cell.
     pub fn pop(&mut self, pointer: Ptr, line: u32) {
         if let Some(life) = self.live_mut(pointer) {
             life.popped = ShortLine::of(line);
         }
     }
 
-    /// Notes which local or field got a live cell, unless it was the last to get this cell and still names it.
+    /// Notes that a local or field was set to a live cell. Does nothing if the same one was set to the cell last, and still names the cell.
     pub fn hold(&mut self, pointer: Ptr, held: Held) {
         if let Some(life) = self.live_mut(pointer) {
             let is_same = life.held.is_some_and(|last| last.is_same_variable(held));
@@ -193,7 +193,7 @@ impl Lives {
         }
     }
 
-    /// Notes that a pointer to a live cell got another value, if it is the one that got the cell last.
+    /// Notes that a pointer to a live cell got another value, if this pointer was the last that was set to the cell.
     pub fn overwrite(&mut self, pointer: Ptr, held: Held) {
         if let Some(life) = self.live_mut(pointer)
             && let Some(last) = life.held
@@ -207,6 +207,18 @@ impl Lives {
     pub fn end(&mut self, pointer: Ptr, ended: Ended) {
         if let Some(life) = self.live_mut(pointer) {
             life.ended = Some(ended);
+        }
+    }
+
+    /// Returns whether the life of a pointer's cell has ended; false if the pointer is null, or if no life at the cell's place is kept.
+    pub fn has_ended(&self, pointer: Ptr) -> bool {
+        let newest = match self.newest_at(pointer.place).checked_sub(1) {
+            Some(at) => self.all.get(at as usize),
+            None => None,
+        };
+        match newest {
+            Some(life) if pointer.number != 0 => { life.pointer != pointer || life.ended.is_some() }
+            _ => false,
         }
     }
 

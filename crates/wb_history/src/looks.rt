@@ -3,7 +3,7 @@
 use wb_heap_model::heap::{Header, Ptr};
 use wb_machine::{Machine, Raiser};
 
-/// Returns whether the statement begun last has panicked itself. A panic that the end of its block or body raises comes later, and doesn't
+/// Returns whether the statement that was begun last has itself panicked. A later panic at the end of the statement's block or body doesn't
 /// count.
 pub fn has_panicked(machine: &Machine<'_>) -> bool {
     match machine.raised_panic() {
@@ -25,8 +25,8 @@ pub fn live_at(machine: &Machine<'_>, place: u32) -> Option<Header> {
     }
 }
 
-/// Returns whether the bytes from place `from` up to place `until` belong to no live cell other than `own`. No other cell that begins below
-/// `from` may reach into these bytes.
+/// Returns whether no live cell other than `own` has any of the bytes from place `from` up to place `until`. The caller makes sure that no
+/// other cell that begins below `from` reaches into these bytes.
 pub fn are_free_but_for(machine: &Machine<'_>, own: Header, from: u32, until: u32) -> bool {
     let first = machine.next_live(from);
     let other = match first {

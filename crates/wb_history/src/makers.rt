@@ -6,11 +6,11 @@ use wb_tree::script::{Refusal, Statement};
 #[derive(Clone, Copy)]
 pub struct Maker<'a> {
     pub line: u32,
-    /// Its statement; `None` for the first attempt, which no line makes.
+    /// The line's statement; `None` for the first attempt, which no line makes.
     pub statement: Option<&'a Statement>,
-    /// The first line, other than this one, that was begun after the attempt, outside of bodies that undo; 0 if there is none.
+    /// The first other line that was begun after the attempt, outside of operations and destructors; 0 if there is none.
     pub after: u32,
-    /// How many machine turns after the attempt stayed at this line, until that other line was begun. A `repeat` of this line alone takes
+    /// How many machine turns after the attempt stayed at this line, until the line `after` was begun. A `repeat` of this line alone takes
     /// two machine turns for each pass.
     pub idle: u32,
 }
@@ -26,7 +26,7 @@ impl<'a> Maker<'a> {
         }
     }
 
-    /// Sees a machine turn after the attempt: the line that was begun last, and whether that line is in a body that undoes.
+    /// Records a machine turn after the attempt: `line` was begun last, and `undoes` says whether it is in an operation or a destructor.
     pub fn see(&mut self, line: u32, undoes: bool) {
         if self.after != 0 {
             return;
@@ -38,7 +38,7 @@ impl<'a> Maker<'a> {
         }
     }
 
-    /// Whether the line gives null and the run goes on if the attempt fails.
+    /// Whether, if the attempt fails, the line sets its pointer to null and the run goes on.
     pub fn gives_null(&self) -> bool {
         match self.statement {
             Some(Statement::Realloc(_, _, _, Refusal::GivesNull))

@@ -1,14 +1,14 @@
-//! The heap marks that are open, and which of them a leave went past.
+//! The heap marks that are open, and the leaves that skipped the ends of some of them.
 
 use std::alloc::{AllocError, Global};
 
-/// A heap mark that is open, or was.
+/// A heap mark that is or was open.
 #[derive(Clone, Copy, Debug, PartialEq, Eq)]
 pub struct OpenMark {
     pub line: u32,
-    /// The step in which it was opened.
+    /// The step in which the mark was opened.
     pub since: u32,
-    /// The line of the leave that ended the code after it, which would have closed it; 0 if none did.
+    /// The line of the leave that skipped the code that would have closed the mark; 0 if no leave did.
     pub skipped_by: u32,
 }
 
@@ -16,9 +16,9 @@ pub struct OpenMark {
 #[derive(Drop)]
 pub struct Marks {
     open: Vec<OpenMark>,
-    /// The line that closed a mark last; 0 if none did.
+    /// The line that last closed a mark; 0 if no line did.
     pub closed_at: u32,
-    /// The mark that was closed last of those that a leave went past, and the line that closed it.
+    /// The last closed mark whose own end a leave had skipped, and the line that then closed this mark.
     pub closed_late: Option<(OpenMark, u32)>,
 }
 
@@ -57,7 +57,7 @@ impl Marks {
         }
     }
 
-    /// A line leaves, to a TRAP that began in the step `since`: the leave goes past the ends of the marks that were opened inside that TRAP.
+    /// A line leaves to a TRAP that began in the step `since`. The leave skips the ends of the marks that were opened inside this TRAP.
     pub fn leave(&mut self, since: u32, line: u32) {
         for mark in self.open.as_mut_slice() {
             if mark.since >= since && mark.skipped_by == 0 {

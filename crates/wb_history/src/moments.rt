@@ -6,7 +6,7 @@ use wb_heap_model::heap::Ptr;
 #[derive(Clone, Copy, Debug, PartialEq, Eq)]
 pub struct Moment {
     pub step: u32,
-    /// 0 for what no line does: making the cell of the cleanup stack.
+    /// The line; 0 if no line did it, as when the cell of the cleanup stack was made.
     pub line: u32,
     pub path: u32,
 }
@@ -37,28 +37,28 @@ impl ShortLine {
     }
 }
 
-/// The local or field that got a cell last, and when it got the cell.
+/// The local or field that was last set to a cell, and when it was set.
 #[derive(Clone, Copy, Debug, PartialEq, Eq)]
 pub struct Held {
-    /// The object whose field it is; null for a local.
+    /// The object that has the field; null for a local.
     pub owner: Ptr,
-    /// After how many steps it got the cell, at which line, and which line called the body of that line; no line if that body is `main`.
+    /// After how many steps the local or field was set, at which line, and which line called this line's body; no line called `main`.
     pub since: u32,
     pub line: ShortLine,
     pub caller: ShortLine,
-    /// How many bodies ran then.
+    /// How many bodies ran when the local or field was set.
     pub depth: u8,
     /// The index of the local, or of the field.
     pub index: u8,
 }
 
 impl Held {
-    /// Whether it is a field of an object.
+    /// Whether this is a field of an object.
     pub fn is_field(self) -> bool {
         self.owner.number != 0
     }
 
-    /// Whether it is the same local or field as another.
+    /// Whether this is the same local or field as `other`.
     pub fn is_same_variable(self, other: Held) -> bool {
         self.index == other.index
             && self.owner == other.owner

@@ -1,4 +1,4 @@
-//! The operands of a statement that name cells, by the words of its line.
+//! The operands of a statement that name cells, and which word of the statement's line each operand is.
 
 use crate::statements::{edited_by, target_of};
 use wb_tree::script::{Argument, Condition, Pointer, Readable, Statement, Writable};

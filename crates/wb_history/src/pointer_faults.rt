@@ -1,9 +1,9 @@
-//! The pointer that a panic is about: which operand of its line it is, and why it names no cell.
+//! The pointer that a panic is about: which operand of the panicking line it is, and why the pointer names no cell.
 
 use crate::lives::{Life, Lives};
 use crate::looks::is_live;
 use crate::operands::{CellName, MOST_OPERANDS, Operand, operand_at};
-use crate::statements::{Variable, written_by};
+use crate::statements::written_by;
 use crate::turns::History;
 use crate::writes::PointerWrite;
 use wb_heap_model::heap::{Panic, Ptr};
@@ -14,19 +14,19 @@ use wb_tree::script::{Holder, Pointer, Readable};
 #[derive(Clone, Copy, Debug, PartialEq, Eq)]
 pub enum PointerState {
     Null,
-    /// Its cell's life has ended; `None` if that life isn't kept.
+    /// The life of the pointer's cell has ended; `None` if this life isn't kept.
     Gone(Option<Life>),
 }
 
 /// The pointer that a panic is about.
 #[derive(Clone, Copy)]
 pub struct PointerFault {
-    /// The index of its word in the line.
+    /// The index of the pointer's word in the line.
     pub word: usize,
     pub state: PointerState,
-    /// The pointer; `None` if the operand is a view. Then the cell is that of the view's text.
+    /// The pointer; `None` if the operand is a view. For a view, `state` is about the cell whose text the view shows.
     pub pointer: Option<Pointer>,
-    /// Whether the word names a field, and the pointer is the one to the object of that field.
+    /// Whether the word names a field, and the pointer at fault is the pointer to this field's object.
     pub is_owner: bool,
     /// What gave the pointer its value; `None` if that isn't known.
     pub write: Option<PointerWrite>,
@@ -77,32 +77,13 @@ fn fault_of(
     })
 }
 
-/// What gave a pointer its value, if that was in the running body, or if the pointer is a field; `None` if that isn't known.
+/// The write that gave a pointer its value. For a local, only a write by the running body counts. `None` if no such write is known.
 fn write_of(
     machine: &Machine<'_>,
     history: &History<'_>,
     pointer: Option<Pointer>,
 ) -> Option<PointerWrite> {
-    let Variable {
-        owner,
-        index,
-        names,
-    } = written_by(machine, pointer)?;
-    let depth = machine.depth();
-    let write = history.writes.newest_of(&PointerWrite {
-        owner,
-        index,
-        depth,
-        line: 0,
-        step: 0,
-        names,
-    })?;
-    let is_of_body = owner.number != 0 || history.calls.last_line_of(depth, write.step) != 0;
-    if write.names == names && is_of_body {
-        Some(write)
-    } else {
-        None
-    }
+    history.write_of(written_by(machine, pointer)?, machine.depth())
 }
 
 /// The pointer to the object of a field; `None` if the pointer is no field.

@@ -1,4 +1,4 @@
-//! What a statement does with pointers, and what these pointers name before it begins.
+//! What a statement does with pointers, and what these pointers name before the statement begins.
 
 use wb_heap_model::heap::{Answer, Attempt, Item, KERR_NO_MEMORY, Ptr};
 use wb_machine::Machine;
@@ -27,11 +27,13 @@ pub struct Ahead<'a> {
     pub statement: &'a Statement,
     /// The pointer that the statement writes; `None` if it writes none.
     pub written: Option<Variable>,
-    /// What is named by the pointer that the statement reads; null if it reads none.
+    /// What is named by the pointer that the statement reads; null if the statement reads none.
     pub source: Ptr,
+    /// The pointer that the statement copies or returns, if this pointer is null; `None` otherwise.
+    pub(crate) null: Option<Variable>,
     /// How many turns a `repeat` is to take, or how many items a `popdestroy` is to destroy, if it doesn't panic; 0 for other statements.
     pub(crate) rest: u32,
-    /// The code with which the statement leaves because of its operand, without any attempt; `None` if it doesn't.
+    /// The code with which the operand makes the statement leave, without any attempt; `None` if the operand doesn't make it leave.
     leaves: Option<i32>,
 }
 
@@ -49,6 +51,7 @@ impl<'a> Ahead<'a> {
             statement,
             written: written_by(machine, pointers.target),
             source,
+            null: null_copied(machine, statement, source),
             rest: rest_of(machine, statement),
             leaves: leaves_by_operand(machine, statement, source),
         }
@@ -87,7 +90,17 @@ impl<'a> Ahead<'a> {
     }
 }
 
-/// The pointer that a statement writes, if any, and what it names; `None` for `self`, which no statement writes.
+/// The pointer that a statement copies or returns, if this pointer is null; `None` otherwise. `source` is what the pointer names.
+fn null_copied(machine: &Machine<'_>, statement: &Statement, source: Ptr) -> Option<Variable> {
+    match statement {
+        Statement::Set(_, pointer) | Statement::ReturnPointer(pointer) if source == NULL => {
+            written_by(machine, Some(*pointer))
+        }
+        _ => None,
+    }
+}
+
+/// The pointer that a statement writes, if any, and what this pointer names; `None` for `self`, which no statement writes.
 #[inline(always)]
 pub(crate) fn written_by(machine: &Machine<'_>, target: Option<Pointer>) -> Option<Variable> {
     let target = target?;
@@ -108,7 +121,7 @@ pub fn target_of(statement: &Statement) -> Option<Pointer> {
     pointers_of(statement).target
 }
 
-/// The pointer that a statement writes and the pointer that it reads, as far as the lives of cells or the items depend on them.
+/// The pointer that a statement writes and the pointer that it reads, as far as cells' lives or the cleanup stack's items depend on them.
 #[derive(Clone, Copy)]
 struct Pointers {
     target: Option<Pointer>,
@@ -152,11 +165,15 @@ fn names_of(machine: &Machine<'_>, pointer: Option<Pointer>) -> Ptr {
     }
 }
 
-/// Returns what is named by the pointer that the last statement begun reads, or by that of the text that it edits; null if there is none.
+/// Looks at the pointer that the last begun statement reads, or through which the statement accesses a cell or a text. Returns what this
+/// pointer names; null if there is no such pointer.
 pub fn last_read(machine: &Machine<'_>) -> Ptr {
     let Some(statement) = machine.statement() else {
         return NULL;
     };
+    if let Statement::Store(pointer, ..) | Statement::Load(_, pointer, _) = statement {
+        return machine.pointer(*pointer);
+    }
     match edited_by(statement) {
         Some(Writable::InCell(pointer)) => machine.pointer(pointer),
         Some(Writable::OwnBuffer(_)) => NULL,

@@ -6,13 +6,13 @@ use std::alloc::{AllocError, Global};
 /// The most leaves that are kept. Each further leave replaces the last one.
 const MOST_LEAVES: usize = 100_000;
 
-/// A TRAP of the script that is open, or was.
+/// A TRAP of the script that is or was open.
 #[derive(Clone, Copy, Debug, PartialEq, Eq)]
 pub struct OpenTrap {
     pub line: u32,
-    /// The step in which it began.
+    /// The step in which the TRAP began.
     pub since: u32,
-    /// How many items were on the cleanup stack at its entry.
+    /// How many items were on the cleanup stack when the TRAP began.
     pub items: usize,
 }
 
@@ -23,15 +23,15 @@ pub struct Leave {
     pub code: i32,
     /// How many bodies ran.
     depth: u32,
-    /// The TRAP that caught it; `None` if `main` was left.
+    /// The TRAP that caught the leave; `None` if `main` was left.
     pub caught: Option<OpenTrap>,
-    /// The first other line begun after it, outside of bodies that undo; 0 if there is none.
+    /// The first other line that was begun after the leave, outside of operations and destructors; 0 if there is none.
     pub after: u32,
 }
 
 impl Leave {
-    /// Whether this leave cut short the code in which a pointer got a cell: the pointer got it after the leave's TRAP began and before the
-    /// leave, in a body that was still running.
+    /// Whether this leave cut short the code in which a pointer was set to a cell. The pointer was then set after the leave's TRAP began
+    /// and before the leave, in a body that was still running.
     fn ends(&self, held: Held) -> bool {
         let since = match self.caught {
             Some(trap) => trap.since,
@@ -45,11 +45,11 @@ impl Leave {
 pub struct Traps {
     open: Vec<OpenTrap>,
     last_ended: Option<OpenTrap>,
-    /// The oldest leaves first, and always the newest last.
+    /// The leaves, the oldest first. The newest leave is always kept, as the last.
     leaves: Vec<Leave>,
 }
 
-/// Written by hand, so that a proof about a function that drops such a value has a single call there, and only this function goes over
+/// Written by hand, so that dropping such a value is a single call in a proof. Only this function goes over
 /// the fields.
 impl Drop for Traps {
     fn drop(self) {
@@ -86,7 +86,7 @@ impl Traps {
         self.leaves.last().copied()
     }
 
-    /// Returns the first leave from one step up to another; `None` if there is none.
+    /// Returns the first leave in the steps from `from` up to, but without, `until`; `None` if there is none.
     pub fn leave_between(&self, from: u32, until: u32) -> Option<Leave> {
         for leave in self.leaves.as_slice() {
             if from <= leave.at.step && leave.at.step < until {
@@ -96,7 +96,7 @@ impl Traps {
         None
     }
 
-    /// Returns the first leave that cut short the code in which a pointer got a cell; `None` if none did.
+    /// Returns the first leave that cut short the code in which a pointer was set to a cell; `None` if no leave did.
     pub fn leave_that_ended(&self, held: Held) -> Option<Leave> {
         for leave in self.leaves.as_slice() {
             if leave.ends(held) {
@@ -129,7 +129,7 @@ impl Traps {
         Ok(caught.map_or(0, |trap| trap.items))
     }
 
-    /// A line begins outside of bodies that undo.
+    /// A line begins outside of operations and destructors.
     #[inline(always)]
     pub fn begin_line(&mut self, line: u32) {
         if let Some(newest) = self.leaves.last_mut()

@@ -30,15 +30,15 @@ struct Deletion {
     line: u32,
 }
 
-/// The statement that was begun last outside of bodies that undo.
+/// The statement that was begun last outside of operations and destructors.
 #[derive(Clone, Copy)]
 struct Outside<'a> {
     line: u32,
     statement: Option<&'a Statement>,
-    /// How many bodies ran, and the call path of the line.
+    /// How many bodies ran at this statement, and the call path to its line.
     depth: u32,
     path: u32,
-    /// How many bodies ran when the first line after it began.
+    /// How many bodies ran when the first line after this statement began.
     inside: u32,
 }
 
@@ -58,20 +58,20 @@ pub struct History<'a> {
     pub last_item: Option<ItemOnStack>,
     pub last_deleted: Ptr,
     deletions: Vec<Deletion>,
-    /// How many cells were live when `deletions` was last gone through; `None` if a deletion was added since.
+    /// How many cells were live when `deletions` was last gone through; `None` if a deletion was added since then.
     live: Option<u32>,
     blocks: Blocks,
     /// The cleanup stack's own cell.
     stack: Ptr,
     steps: u32,
-    /// The line that was begun last, and whether it is in a body that undoes.
+    /// The line that was begun last, and whether this line is in a body that undoes (an operation or a destructor).
     last: u32,
     undoes: bool,
-    /// The statement that was begun last before the running body that undoes.
+    /// The statement that was begun last before the run entered a body that undoes.
     outside: Outside<'a>,
 }
 
-/// Written by hand, so that a proof about a function that drops such a value has a single call there, and only this function goes over
+/// Written by hand, so that dropping such a value is a single call in a proof. Only this function goes over
 /// the fields.
 impl Drop for History<'_> {
     fn drop(self) {
@@ -148,8 +148,8 @@ impl<'a> History<'a> {
         self.last
     }
 
-    /// Returns the line that was begun last outside of operations and destructors. While one of these runs, it is the line because of which
-    /// something is destroyed.
+    /// Returns the line that was begun last outside of operations and destructors. While one of these runs, this is the line that
+    /// caused the destruction.
     pub fn last_line_outside(&self) -> u32 {
         if self.undoes {
             self.outside.line
@@ -171,8 +171,8 @@ impl<'a> History<'a> {
         self.calls.path(depth)
     }
 
-    /// Returns the call path to the line that was begun last. In a body that undoes it goes on from the line because of which something is
-    /// destroyed, even if that line left. The only error is that memory ran out.
+    /// Returns the call path to the line that was begun last. In an operation or a destructor, the path leads through the line that
+    /// caused the destruction, even if that line left. The only error is that memory ran out.
     pub fn last_path(&mut self) -> Result<u32, AllocError> {
         let depth = self.calls.depth();
         if self.undoes && self.outside.path != 0 {
@@ -183,7 +183,7 @@ impl<'a> History<'a> {
         self.calls.path(depth)
     }
 
-    /// Sees the machine after a turn that was to begin a quiet statement, of which only the line is kept.
+    /// Looks at the machine after a turn that was to begin a quiet statement. Only the line of this statement is kept.
     pub(crate) fn see_quiet(&mut self, machine: &Machine<'a>) -> Result<(), AllocError> {
         if machine.steps() > self.steps {
             self.see_block(machine)?;
@@ -195,7 +195,7 @@ impl<'a> History<'a> {
         self.see_ends(machine)
     }
 
-    /// Sees the machine after a turn that was to begin any other statement.
+    /// Looks at the machine after a turn that was to begin a statement that isn't quiet.
     pub(crate) fn see_begun(
         &mut self,
         machine: &Machine<'a>,
@@ -215,13 +215,13 @@ impl<'a> History<'a> {
         self.see_ends(machine)
     }
 
-    /// Sees that the next machine turn begins no statement, and which TRAPs ended before it.
+    /// Records that the next machine turn begins no statement, and which TRAPs ended before that turn.
     pub(crate) fn go_on(&mut self) -> Result<(), AllocError> {
         self.blocks.go_on();
         self.see_traps()
     }
 
-    /// Sees the machine after a turn that began no statement: the first turn of the run, a turn of a `repeat`, or one that destroys.
+    /// Looks at the machine after a turn that began no statement: the first turn, a turn of a `repeat`, or a turn that destroys something.
     pub(crate) fn see_other(&mut self, machine: &Machine<'a>) -> Result<(), AllocError> {
         self.see_line(machine)?;
         if let Some(attempt) = self.attempts.see_newest(machine)? {
@@ -235,21 +235,21 @@ impl<'a> History<'a> {
         self.see_ends(machine)
     }
 
-    /// Sees the machine after the last machine turn of the run.
+    /// Looks at the machine after the last machine turn of the run.
     pub(crate) fn see_end(&mut self, machine: &Machine<'a>) -> Result<(), AllocError> {
         self.traps.keep(machine.open_traps());
         self.note_traps()?;
         self.see_ends(machine)
     }
 
-    /// Sees which TRAPs ended before the last machine turn began its statement.
+    /// Records which TRAPs ended before the last machine turn began its statement.
     #[inline(always)]
     fn see_block(&mut self, machine: &Machine<'a>) -> Result<(), AllocError> {
         self.blocks.begin_line(machine.depth(), machine.line());
         self.see_traps()
     }
 
-    /// Sees which TRAPs ended with the last step that was seen.
+    /// Records which TRAPs ended with the last step that was seen.
     #[inline(always)]
     fn see_traps(&mut self) -> Result<(), AllocError> {
         let open = self.blocks.open_traps();
@@ -266,7 +266,7 @@ impl<'a> History<'a> {
         self.course.note_traps(self.steps, count)
     }
 
-    /// Sees which objects a machine turn released, and notes the numbers after it if a picture is wanted.
+    /// Records which objects a machine turn released. If a picture is wanted, also notes the course's numbers after that turn.
     fn see_ends(&mut self, machine: &Machine<'a>) -> Result<(), AllocError> {
         if !self.deletions.is_empty() {
             self.see_deletions(machine);
@@ -286,12 +286,16 @@ impl<'a> History<'a> {
         }
         self.last = line;
         let (statement, items) = (machine.statement(), self.items.count());
-        self.calls
-            .begin(machine.depth(), line, statement, self.steps, items)
+        let (before, depth) = (self.calls.depth(), machine.depth());
+        self.calls.begin(depth, line, statement, self.steps, items)?;
+        if depth < before {
+            self.items.note_left(&self.calls);
+        }
+        Ok(())
     }
 
-    /// Sees that a body that undoes begins at the depth `inside`, or that none runs any more. Such a body takes the depth, and so the frames,
-    /// of bodies that a leave ended. So the statement that was begun before it is kept, with its call path.
+    /// Records that a body that undoes begins at the depth `inside`, or that no such body runs any more. Such a body takes over the depth
+    /// and the frames of bodies that a leave ended. So the last statement before such a body is kept, with its call path.
     fn see_undoing(&mut self, inside: u32) -> Result<(), AllocError> {
         self.undoes = !self.undoes;
         if self.undoes {
@@ -316,7 +320,7 @@ impl<'a> History<'a> {
         })
     }
 
-    /// Sees an item that the cleanup stack destroys.
+    /// Records an item that the cleanup stack destroys.
     fn see_destroyed(
         &mut self,
         machine: &Machine<'a>,

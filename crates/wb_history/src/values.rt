@@ -1,4 +1,4 @@
-//! The values with which a line panicked, read off the machine that the panic stopped.
+//! The values with which a line panicked. They are read from the machine that the panic stopped.
 
 use wb_heap_model::heap::Panic;
 use wb_machine::{Machine, Raiser};
@@ -17,12 +17,12 @@ pub enum Values {
         position: i32,
         length: u32,
     },
-    /// More units were asked for than a text has, or room for fewer than it has.
+    /// A line asked for more units than a text has, or for room for fewer units than the text has.
     Fewer {
         wanted: i32,
         length: u32,
     },
-    /// A part of a text was asked for that would end past the text's end.
+    /// A line asked for a part of a text that would end past the text's end.
     Part {
         position: i32,
         wanted: i32,
@@ -214,12 +214,12 @@ fn out_of_line(machine: &Machine<'_>, word: usize, number: Number) -> Option<Mea
     about(word, Values::OutOfRange(machine.number(number)))
 }
 
-/// Why a text couldn't be inserted: because the position is below 0, or else because the text is the one it was to be inserted into.
+/// Why a text couldn't be inserted: because the position is below 0, or else because a text was to be inserted into itself.
 fn below_zero_or_own_text(position: i32) -> Option<Meant> {
     below_zero(2, position).or(about(3, Values::OwnText))
 }
 
-/// The first of two numbers that is below 0. `word` is the index of the first number's word; the second number's word is the next.
+/// The first of two numbers that is below 0. `word` is the index of the first number's word; the second number is the next word.
 fn either_below_zero(
     machine: &Machine<'_>,
     word: usize,

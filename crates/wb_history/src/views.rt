@@ -12,7 +12,7 @@ const LOCALS: usize = 256;
 /// The cells whose texts the views of the running bodies show.
 #[derive(Drop)]
 pub struct Views {
-    /// Indexed by how many bodies run where the view is, and by the view's index among its body's locals.
+    /// The cells, indexed by how many bodies run at the view, and by the view's index among its body's locals.
     cells: Vec<Ptr>,
 }
 
@@ -30,7 +30,7 @@ impl Views {
         self.cells.get(at).copied().unwrap_or(NULL)
     }
 
-    /// Sees a statement that was carried out, and notes what a view shows if the statement changed that.
+    /// Notes which cell's text a view shows, if this statement, which was carried out, changed the view.
     pub fn see(&mut self, machine: &Machine<'_>, statement: &Statement) -> Result<(), AllocError> {
         match statement {
             Statement::Left(view, text, _)

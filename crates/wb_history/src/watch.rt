@@ -28,17 +28,17 @@ pub struct EndOfRun<'a> {
     pub raised: Option<Raised>,
     /// The statement that was begun last.
     pub statement: Option<&'a Statement>,
-    /// The pointer, the values or the cells that the panic is about; each is `None` if the panic is about none.
+    /// The pointer, the values or the cells that the panic is about; each is `None` if the panic is about no such thing.
     pub pointer: Option<PointerFault>,
     pub values: Option<Meant>,
     pub counted: Option<Counted>,
-    /// What is named by the pointer that the last statement reads, or by that of the text that it edits; null if there is none.
+    /// The cell whose text the last statement edits, or else what is named by the pointer that it reads; null if there is none.
     pub names: Ptr,
-    /// The lines from `main` down to the line that is to be named for the panic; none without a panic.
+    /// The lines from `main` down to the line that is to be named for the panic; empty without a panic.
     pub path: Vec<u32>,
 }
 
-/// Written by hand, so that a proof about a function that drops such a value has a single call there, and only this function goes over
+/// Written by hand, so that dropping such a value is a single call in a proof. Only this function goes over
 /// the fields.
 impl Drop for EndOfRun<'_> {
     fn drop(self) {
@@ -62,7 +62,7 @@ pub struct WatchedRun<'a> {
     pub end: EndOfRun<'a>,
 }
 
-/// Written by hand, so that a proof about a function that drops such a value has a single call there, and only this function goes over
+/// Written by hand, so that dropping such a value is a single call in a proof. Only this function goes over
 /// the fields.
 impl Drop for WatchedRun<'_> {
     fn drop(self) {
@@ -75,8 +75,8 @@ impl Drop for WatchedRun<'_> {
     }
 }
 
-/// Runs the script once with these parameters, watches the run, and keeps what explanations name, and besides that what `keep` says; `None`
-/// if no heap may have this shape. The run ends as the definitions say; nothing is promised of what is kept. The only error is that memory
+/// Runs the script once with these parameters, and keeps what explanations name and what `keep` adds; `None` if no heap may have this
+/// shape. The run ends as the definitions say, but nothing is promised about what is kept. The only error is that memory
 /// ran out.
 pub fn watch_run<'a>(
     alloc: Global,
@@ -117,7 +117,7 @@ pub fn machine_of<'a>(
     }
 }
 
-/// Watches the whole run of a machine, and takes its outcome. If any machine turns weren't watched, they are taken after that.
+/// Watches the run of a machine, lets the machine take any turns that are left, and keeps the run's outcome.
 fn run_of<'a>(
     alloc: Global,
     mut machine: Machine<'a>,
@@ -201,7 +201,7 @@ pub fn watch_attempts<'a>(
     }
 }
 
-/// The attempts of a machine's run up to `until`. The rest of the run isn't made.
+/// The attempts of a machine's run up to `until`. The machine isn't run any further.
 fn attempts_of<'a>(
     alloc: Global,
     mut machine: Machine<'a>,
@@ -222,7 +222,7 @@ fn see_attempts<'a>(
     Ok(attempts)
 }
 
-/// Lets the machine take its turns up to `until`, at most one for each step of the budget, besides the first turn and the one that ends the
+/// Lets the machine take its turns up to `until`: at most one for each step of the budget, plus the first turn and the turn that ends the
 /// run.
 fn watch_some<'a>(
     machine: &mut Machine<'a>,
@@ -247,7 +247,7 @@ fn is_reached(attempts: &Attempts<'_>, until: Until) -> bool {
     }
 }
 
-/// Lets the machine take its turns, at most one for each step of the budget, besides the first turn and the one that ends the run.
+/// Lets the machine take its turns: at most one for each step of the budget, plus the first turn and the turn that ends the run.
 fn watch<'a>(
     machine: &mut Machine<'a>,
     history: &mut History<'a>,

@@ -1,4 +1,4 @@
-//! What is said of attempts that a run's rule makes fail: which of them failed, and what came of it.
+//! What is said about attempts that a run's rule makes fail: which of them failed, and where the run went on.
 
 use crate::runs::rates::{put_first, put_rate};
 use crate::runs::script_page::{ScriptPage, Written};
@@ -6,8 +6,8 @@ use crate::runs::sets::{put_by_rule, put_set};
 use wb_heap_model::heap::Rule;
 use wb_history::WatchedRun;
 
-/// Says which lines made the attempts that failed because of the rule, if the rule may make any fail, and where the run went on after each,
-/// unless that is the line of its panic.
+/// Says which lines made the attempts that failed because of the rule. Also says where the run went on after each of these attempts,
+/// except if the run went on at the line of its panic.
 pub fn put_refused(page: &mut ScriptPage<'_>, rule: &Rule, run: &WatchedRun<'_>) -> Written {
     match rule {
         Rule::Unlimited | Rule::Number(0) | Rule::Every(0) | Rule::From(0) => Ok(()),
@@ -20,13 +20,13 @@ pub fn put_refused(page: &mut ScriptPage<'_>, rule: &Rule, run: &WatchedRun<'_>)
     }
 }
 
-/// Says how many attempts failed under a rate, and shows them.
+/// Says how many attempts failed under a rate, and shows these attempts.
 fn put_every(page: &mut ScriptPage<'_>, rate: u32, run: &WatchedRun<'_>) -> Written {
     put_rate(page, rate, &run.history.attempts);
     put_by_rule(page, run)
 }
 
-/// Says how many attempts failed where attempt `first` and each later one fails, and shows them.
+/// Says how many attempts failed if attempt `first` and each later attempt were to fail, and shows these attempts.
 fn put_from(page: &mut ScriptPage<'_>, first: u32, run: &WatchedRun<'_>) -> Written {
     put_first(page, first, &run.history.attempts);
     put_by_rule(page, run)

@@ -1,4 +1,4 @@
-//! Which line is to be named for a panic: the line that was begun last, or one that destroyed something, or after which a
+//! Which line is to be named for a panic: the line that was begun last, the line that destroyed something, or the line after which a
 //! TRAP or `main` ended.
 
 use wb_history::WatchedRun;
@@ -14,12 +14,12 @@ pub fn line_of(raised: Raised, run: &WatchedRun<'_>) -> u32 {
     }
 }
 
-/// The line that is to be named for the panic with which a run ended; `None` if it ended otherwise.
+/// The line that is to be named for the panic with which a run ended; `None` if the run ended otherwise.
 pub fn panicked_at(run: &WatchedRun<'_>) -> Option<u32> {
     run.end.raised.map(|raised| line_of(raised, run))
 }
 
-/// The line of the class of an object that couldn't be released: its destructor is the body that ended. `None` if something
+/// The line of the class of an object that couldn't be released, found by the destructor that ended. `None` if something
 /// else raised the panic.
 pub fn class_of(raised: Raised, run: &WatchedRun<'_>) -> Option<u32> {
     match raised.raiser {

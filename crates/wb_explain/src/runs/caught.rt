@@ -1,10 +1,10 @@
-//! What is said of a leave that a TRAP caught: which line left, with which code, and that the code is to be looked at.
+//! What is said about a leave that a TRAP caught: which line left, with which code, and that the code is to be looked at.
 
 use crate::runs::end_words::CodeName;
 use crate::runs::script_page::{ScriptPage, Written};
 use wb_history::{Leave, WatchedRun};
 
-/// Says which line left, and shows the TRAP that caught it; nothing if `main` was left, of which its own message tells.
+/// Says which line left, and shows the TRAP that caught the leave. Says nothing if `main` was left: another message says so.
 pub fn put_caught(page: &mut ScriptPage<'_>, leave: Leave) -> Written {
     let Some(trap) = leave.caught else {
         return Ok(());
@@ -16,8 +16,8 @@ pub fn put_caught(page: &mut ScriptPage<'_>, leave: Leave) -> Written {
     )
 }
 
-/// The leave that came of the last attempt that failed, or the last leave where none failed, if a TRAP caught it and the run went on without a look at
-/// its code. If `main` was left in the end, some line looked at it.
+/// The first leave from the last failed attempt on, or the last leave if no attempt failed. `None` if no TRAP caught it, if no line came
+/// after it, or if the next line looks at its code. `None` also if the last leave left `main`, because some line then looked at a code.
 pub fn overlooked_leave(page: &ScriptPage<'_>, run: &WatchedRun<'_>) -> Option<Leave> {
     let mut failed = 0;
     for made in run.history.attempts.kept_attempts() {
@@ -32,17 +32,21 @@ pub fn overlooked_leave(page: &ScriptPage<'_>, run: &WatchedRun<'_>) -> Option<L
         step => traps.leave_between(step, u32::MAX)?,
     };
     let name = page.word(leave.caught?.line, 1);
-    if last.caught.is_none() || leave.after == 0 || looks_at(page, leave.after, name) {
+    if last.caught.is_none() || leave.after == 0 || looks_at(page, leave, name) {
         None
     } else {
         Some(leave)
     }
 }
 
-/// Whether a line looks whether the code of this name is an error at all: a compare with another code than 0 lets some go by.
-fn looks_at(page: &ScriptPage<'_>, line: u32, name: &str) -> bool {
+/// Whether the line after a leave tests the code `name` with `leaveiferror`, compares it with 0, or tests whether it equals the code of
+/// this leave. Any other comparison lets some errors pass.
+fn looks_at(page: &ScriptPage<'_>, leave: Leave, name: &str) -> bool {
+    let line = leave.after;
+    let other = page.word(line, 3);
+    let is_this = page.word(line, 1) == "eq" && other.parse::<i32>().ok() == Some(leave.code);
     match page.word(line, 0) {
-        "if" => page.word(line, 2) == name && page.word(line, 3) == "0",
+        "if" => page.word(line, 2) == name && (other == "0" || is_this),
         "leaveiferror" => page.word(line, 1) == name,
         _ => false,
     }
@@ -56,6 +60,12 @@ pub fn put_look(page: &mut ScriptPage<'_>, leave: Leave) {
         if page.word(after, 0) == "trap" && page.word(after, 1) == name {
             return page.page.write_help(format_args!(
                 "line {line} left, to the TRAP of line {at}, and the `trap` of line {after} gave `{name}` another value before a line looked at it: look at `{name}` before that, or let that `trap` set another int"
+            ));
+        }
+        if page.word(after, 0) == "if" && page.word(after, 2) == name {
+            let (code, other) = (CodeName(leave.code), page.word(after, 3));
+            return page.page.write_help(format_args!(
+                "line {line} left with {code}, to the TRAP of line {at}, and line {after} only compares `{name}` with {other}: deal with each other error too, for example with an `else` that has `leaveiferror {name}`"
             ));
         }
         page.page.write_help(format_args!(

@@ -3,7 +3,7 @@
 use std::fmt;
 use std::fmt::{Display, Formatter, Write};
 
-/// A number of things, by the word for one of them: it is written as `1 unit` or `2 units`.
+/// A number of things, and the word for one of them. They are written as `1 unit` or `2 units`, for example.
 #[derive(Clone, Copy)]
 pub struct Many(pub i64, pub &'static str);
 
@@ -19,15 +19,15 @@ pub fn of_one_or_more(count: i64, of_one: &'static str, of_more: &'static str) -
     if count == 1 { of_one } else { of_more }
 }
 
-/// The article before a number of things: `an` before 8, 11, 18, 80, 800 and 11,000, for example, and else `a`.
+/// The article before a number of things: `an` before 8, 11, 18, 80, 800 and 11,000, for example, and otherwise `a`.
 pub fn article_of(count: u32) -> &'static str {
-    let first = match count {
-        0..=999 => count,
-        1_000..=999_999 => count / 1_000,
-        _ => count / 1_000_000,
+    let first = if count < 1_000 {
+        count
+    } else if count < 1_000_000 {
+        count / 1_000
+    } else {
+        count / 1_000_000
     };
-    match first {
-        8 | 11 | 18 | 80..=89 | 800..=899 => "an",
-        _ => "a",
-    }
+    let is_vowel = matches!(first, 8 | 11 | 18) || first / 10 == 8 || first / 100 == 8;
+    if is_vowel { "an" } else { "a" }
 }

@@ -1,5 +1,5 @@
-//! What is said of a run that was cut, and of a search over all sets of attempts that met more states than it may: where, what is known, and
-//! what to raise.
+//! What is said about a run that was cut, and about a search over sets of attempts that met more states than are allowed: where, what is
+//! known, and what to raise.
 
 use crate::runs::counts::Many;
 use crate::runs::explanation::{FindingKind, Told};
@@ -54,18 +54,18 @@ fn put_ceiling(page: &mut ScriptPage<'_>, line: u32) -> Written {
     Ok(())
 }
 
-/// A search that met more states than it may.
+/// A search that met more states than are allowed.
 #[derive(Clone, Copy, Debug, PartialEq, Eq)]
 pub struct ManyStates {
     /// How many states the search may meet.
     pub most: u32,
-    /// The size, in attempts, up to which no set that was tried leaks or panics.
+    /// The greatest size, in attempts, up to which all sets that were tried are free of leaks and panics.
     pub fine: u32,
     /// How many states may be allowed next; `None` if more can't be allowed.
     pub raised: Option<u32>,
 }
 
-/// Says that not every set was tried, what is known of those that were, and what to do.
+/// Says that not every set was tried, what is known about the sets that were tried, and what to do.
 pub fn put_many_states(page: &mut ScriptPage<'_>, met: ManyStates) {
     let states = Many(i64::from(met.most), "state");
     page.page.write_file_message(format_args!(

@@ -1,11 +1,11 @@
-//! What panics mean that the destruction of an item or an object raises, and what to look for.
+//! What a panic means, and what to look for, if the destruction of an item or an object raised the panic.
 
 use crate::runs::panics::Meaning;
 use wb_heap_model::heap::Panic;
 use wb_history::End;
 
-/// What a panic means that an item of the cleanup stack raised when it was destroyed, and what to look for. `end` is how the life of the
-/// item's cell ended; `None` if it didn't, or if that isn't known.
+/// What a panic means, and what to look for, if an item of the cleanup stack raised the panic when it was destroyed. `end` is how the life
+/// of the item's cell ended; `None` if that life hasn't ended, or if its end isn't known.
 pub fn of_item(panic: Panic, end: Option<End>) -> Meaning {
     match panic {
         Panic::NULL_OR_STALE => (
@@ -24,7 +24,7 @@ pub fn of_item(panic: Panic, end: Option<End>) -> Meaning {
     }
 }
 
-/// What it means that the cell of an item is gone, and what to look for, by how the cell's life ended.
+/// What it means that an item's cell is gone, and what to look for. Both depend on how the cell's life ended.
 pub fn of_item_without_cell(end: Option<End>) -> Meaning {
     match end {
         Some(End::Moved) => (
@@ -42,7 +42,7 @@ pub fn of_item_without_cell(end: Option<End>) -> Meaning {
     }
 }
 
-/// What the panic means that the release of an object raised after its destructor, and what to look for.
+/// What a panic means, and what to look for, if the release of an object raised the panic after the object's destructor.
 pub const OF_OBJECT: Meaning = (
     "the object's cell was freed while its destructor ran",
     "`delete` frees the cell itself, after `destroy` has run",

@@ -1,9 +1,9 @@
-//! What is said of a call that drops the pointer with which a procedure says that an attempt failed in it.
+//! What is said about a call that drops a returned pointer, although null in this pointer would have shown that an attempt failed.
 
 use crate::runs::script_page::ScriptPage;
 use wb_history::{BodyKind, WatchedRun};
 
-/// A call that drops what the procedure returns in which the last failed attempt was made.
+/// A call that drops the result of a procedure, if the last failed attempt was made in this procedure.
 #[derive(Clone, Copy)]
 pub struct Dropped<'a> {
     procedure: &'a str,
@@ -11,8 +11,8 @@ pub struct Dropped<'a> {
     call: u32,
 }
 
-/// Returns the call that drops what a procedure returns, if the last failed attempt was made in that procedure by a line that gives null, and
-/// the procedure returns a pointer on another way; `None` if there is no such call, or more than one.
+/// Finds the procedure in which the last failed attempt was made, by a line that gives null. If one of the procedure's lines returns a
+/// pointer, returns the only call that drops this result; `None` if there is no such call, or more than one.
 pub fn dropped_result<'a>(page: &ScriptPage<'a>, run: &WatchedRun<'_>) -> Option<Dropped<'a>> {
     let mut failed = None;
     for made in run.history.attempts.kept_attempts() {
@@ -33,7 +33,7 @@ pub fn dropped_result<'a>(page: &ScriptPage<'a>, run: &WatchedRun<'_>) -> Option
     Some(Dropped { procedure, call })
 }
 
-/// Whether a line of the procedure that begins at a line returns a pointer.
+/// Whether the procedure that begins at the line `begun` has a line that returns a pointer.
 fn returns_pointer(page: &ScriptPage<'_>, begun: u32) -> bool {
     for line in begun.saturating_add(1)..=page.lines.count() {
         match page.word(line, 0) {

@@ -6,7 +6,7 @@ use std::fmt::{Display, Formatter, Write};
 use wb_heap_model::heap::Panic;
 use wb_runs::run_end::RunEnd;
 
-/// A panic as the report names it.
+/// A panic, written as the report names it.
 #[derive(Clone, Copy)]
 pub struct PanicName(pub Panic);
 
@@ -20,7 +20,7 @@ impl Display for PanicName {
     }
 }
 
-/// The code of a leave, after Symbian's name of it if scripts often leave with it.
+/// The code of a leave. For a code that scripts often leave with, Symbian's name of the code comes first.
 #[derive(Clone, Copy)]
 pub struct CodeName(pub i32);
 
@@ -34,7 +34,7 @@ impl Display for CodeName {
     }
 }
 
-/// Symbian's name of a code that scripts often leave with; empty for others.
+/// Symbian's name of a code that scripts often leave with; empty for other codes.
 fn name_of(code: i32) -> &'static str {
     match code {
         -1 => "KErrNotFound",
@@ -53,7 +53,7 @@ fn name_of(code: i32) -> &'static str {
     }
 }
 
-/// How a run ends that leaks or panics; no text for any other run.
+/// How a run ends, if it leaks or panics; no text for any other run.
 #[derive(Clone, Copy)]
 pub struct EndInWords(pub RunEnd);
 

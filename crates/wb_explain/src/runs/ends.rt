@@ -1,4 +1,4 @@
-//! What is said of the end of a run: its panic, its leaks, or why it was cut.
+//! What is said about the end of a run: its panic, its leaks, or why it was cut.
 
 use crate::runs::attempts::put_refused;
 use crate::runs::blame::{class_of, line_of};
@@ -7,11 +7,11 @@ use crate::runs::cuts::put_cut;
 use crate::runs::destroyed::{OF_OBJECT, of_item};
 use crate::runs::end_words::{CodeName, PanicName};
 use crate::runs::explanation::{FindingKind, Told};
-use crate::runs::heap_checks::{meaning_of_check, put_counted, put_counts};
-use crate::runs::item_gone::{cure_of_gone, has_two_items, put_item_gone, put_user};
+use crate::runs::heap_checks::{cure_of_check, put_counted, put_counts};
+use crate::runs::item_gone::{cure_of_gone, has_two_items, left_instead, put_item_gone, put_user};
 use crate::runs::items_left::{
-    OF_MAIN, POP_FIRST, cure_of_another, cure_of_below, cure_of_left, put_another, put_items,
-    put_items_left, put_too_many,
+    OF_MAIN, POP_FIRST, cure_of_another, cure_of_below, cure_of_left, left_to_caller, put_another,
+    put_items, put_items_left, put_too_many,
 };
 use crate::runs::kept::{Kept, kept_value, put_cure_of_kept, put_kept};
 use crate::runs::leaks::put_leaks;
@@ -21,13 +21,14 @@ use crate::runs::pointers::{cure_of, is_left_null, is_out_of_order, put_fault};
 use crate::runs::room::{cure_of_room, cure_of_words, put_room};
 use crate::runs::script_page::{ScriptPage, Written};
 use crate::runs::sentences::put_values;
+use crate::runs::taken::{is_to_leave, put_cure_of_left};
 use crate::runs::told::put_life;
 use wb_heap_model::heap::{Panic, Rule};
 use wb_history::{Ended, Leave, Life, Meant, PointerState, Values, WatchedRun};
 use wb_machine::{Raised, Raiser};
 use wb_meaning::run::Outcome;
 
-/// Says what a run found: first which attempts failed, if the rule was to make any fail, and then how the run ended.
+/// Says what a run found: first which attempts failed because of the rule, and then how the run ended.
 pub fn put_findings(page: &mut ScriptPage<'_>, run: &WatchedRun<'_>) -> Written {
     put_refused(page, &run.parameters.rule, run)?;
     match &run.outcome {
@@ -54,7 +55,7 @@ pub fn put_findings(page: &mut ScriptPage<'_>, run: &WatchedRun<'_>) -> Written 
     }
 }
 
-/// Says which leave a TRAP caught last, where no attempt was to fail.
+/// Says which TRAP caught the last leave, if the rule makes no attempt fail.
 fn put_own_leave(page: &mut ScriptPage<'_>, run: &WatchedRun<'_>) -> Written {
     match run.history.traps.last_leave() {
         Some(leave) if !refuses(&run.parameters.rule) => put_caught(page, leave),
@@ -87,7 +88,7 @@ fn put_left(page: &mut ScriptPage<'_>, code: i32, run: &WatchedRun<'_>) -> Writt
 }
 
 /// Says what the panic was, and shows its line, with carets under the operand that the panic is about, or else under the first word. Then
-/// come the lines that led to the panic.
+/// shows the lines that led to the panic.
 fn put_panic(page: &mut ScriptPage<'_>, raised: Raised, run: &WatchedRun<'_>) -> Written {
     let line = line_of(raised, run);
     let name = page.word(line, 0);
@@ -105,7 +106,7 @@ fn put_panic(page: &mut ScriptPage<'_>, raised: Raised, run: &WatchedRun<'_>) ->
     put_remarks(page, line, raised, run)
 }
 
-/// In which order the lines that led to a panic are told. The cells that a check counted come by their places.
+/// In which order of time the lines that led to a panic are shown. The cells that a check counted are shown in order of their places.
 fn order_of(run: &WatchedRun<'_>) -> Told {
     if run.end.counted.is_some() {
         Told::Unordered
@@ -114,8 +115,8 @@ fn order_of(run: &WatchedRun<'_>) -> Told {
     }
 }
 
-/// Says what raised the panic: the pointer or the values that it is about, or else what the panic means. Returns the index of the
-/// word that is meant.
+/// Says which pointer or values the panic is about, or else what the panic means. Returns the index of the
+/// word that is to be marked.
 fn put_meaning(
     page: &mut ScriptPage<'_>,
     line: u32,
@@ -145,8 +146,8 @@ fn put_meaning(
     0
 }
 
-/// Tells of the lines that led to a panic: what became of the cell that it is about, the items of the cleanup stack, the cells that a
-/// check counted, and the class of an object.
+/// Shows the lines that led to a panic: what became of the cell that the panic is about, the items of the cleanup stack, the cells that
+/// a check counted, and the class of an object.
 fn put_way(page: &mut ScriptPage<'_>, line: u32, raised: Raised, run: &WatchedRun<'_>) -> Written {
     page.begin_way(line)?;
     // the destructor that ended is of the object's own class
@@ -163,15 +164,7 @@ fn put_way(page: &mut ScriptPage<'_>, line: u32, raised: Raised, run: &WatchedRu
     if !has_two {
         put_item_meant(page, line, raised, run)?;
     }
-    if let Some(
-        Meant {
-            values: Values::WouldHave { maximum, .. },
-            ..
-        },
-    ) = run.end.values
-    {
-        put_room(page, maximum, run)?;
-    }
+    put_room(page, run)?;
     let kept = kept_value(page, line, run)?;
     put_kept(page, kept, run)?;
     put_items(page, raised, run)?;
@@ -181,7 +174,7 @@ fn put_way(page: &mut ScriptPage<'_>, line: u32, raised: Raised, run: &WatchedRu
     }
 }
 
-/// Tells of the item whose destruction raised a panic, or used a cell that was destroyed before.
+/// Shows where an item was pushed, if its destruction raised a panic, or used a cell that was destroyed before.
 fn put_item_meant(
     page: &mut ScriptPage<'_>,
     line: u32,
@@ -211,6 +204,9 @@ fn life_of(raised: Raised, run: &WatchedRun<'_>) -> Option<Life> {
 
 /// What to do about a panic; empty if there is no more to say.
 fn help_of(page: &ScriptPage<'_>, line: u32, raised: Raised, run: &WatchedRun<'_>) -> &'static str {
+    if let Some(counted) = &run.end.counted {
+        return cure_of_check(page, counted, run);
+    }
     match run.end.pointer {
         Some(fault) => cure_of(page, run, line, fault),
         None if raised.panic == Panic::POP_BELOW_TRAP => cure_of_below(page, run),
@@ -220,22 +216,19 @@ fn help_of(page: &ScriptPage<'_>, line: u32, raised: Raised, run: &WatchedRun<'_
             cure_of_left(raised, run).unwrap_or(meaning(raised, run).1)
         }
         None if raised.panic == Panic::NUMBER_OUT_OF_RANGE => {
-            cure_of_words(run).unwrap_or(meaning(raised, run).1)
+            cure_of_words(page, run).unwrap_or(meaning(raised, run).1)
         }
         None => meaning(raised, run).1,
     }
 }
 
-/// How the life ended of the cell that a panic is about; `None` if that isn't known.
+/// How the cell that a panic is about came to the end of its life; `None` if that isn't known.
 fn ended_of(raised: Raised, run: &WatchedRun<'_>) -> Option<Ended> {
     life_of(raised, run)?.ended
 }
 
-/// What a panic means and what to look for, by what raised it.
+/// What a panic means, and what to look for. Both depend on what raised the panic.
 fn meaning(raised: Raised, run: &WatchedRun<'_>) -> Meaning {
-    if let Some(counted) = &run.end.counted {
-        return meaning_of_check(counted, run);
-    }
     match (raised.raiser, run.end.statement) {
         (Raiser::TrapEnd, _) => ("", POP_FIRST),
         (Raiser::MainEnd, _) => OF_MAIN,
@@ -248,7 +241,7 @@ fn meaning(raised: Raised, run: &WatchedRun<'_>) -> Meaning {
     }
 }
 
-/// What a panic means that an item raised, and what to look for.
+/// What a panic means, and what to look for, if an item raised the panic.
 fn meaning_of_item(raised: Raised, run: &WatchedRun<'_>) -> Meaning {
     match ended_of(raised, run) {
         Some(ended) => {
@@ -259,7 +252,7 @@ fn meaning_of_item(raised: Raised, run: &WatchedRun<'_>) -> Meaning {
     }
 }
 
-/// What is said of Symbian's own panic; empty if there is none.
+/// What is said about Symbian's own panic; empty if Symbian has no such panic.
 fn symbian_note(raised: Raised, run: &WatchedRun<'_>) -> &'static str {
     match run.end.pointer {
         Some(fault) if raised.panic == Panic::NULL_OR_STALE && fault.state == PointerState::Null =>
@@ -289,7 +282,7 @@ fn put_remarks(
     Ok(())
 }
 
-/// The leave whose code is to be looked at, if the panic may come of a leave that was overlooked; `None` if not, or if an operation set the
+/// The leave whose code should be looked at, if an overlooked leave may have led to the panic; `None` otherwise, or if an operation set the
 /// pointer to null.
 fn look_of(
     page: &ScriptPage<'_>,
@@ -298,13 +291,13 @@ fn look_of(
     run: &WatchedRun<'_>,
 ) -> Option<Leave> {
     match kept {
-        Some(Kept::ByOperation(_)) => None,
+        Some(Kept::ByOperation(_) | Kept::Unchecked { .. }) => None,
         _ if may_come_of_leave(line, run) => overlooked_leave(page, run),
         _ => None,
     }
 }
 
-/// Says what to do about a panic that comes of no leave that was overlooked.
+/// Says what to do about a panic to which no overlooked leave led.
 fn put_help(
     page: &mut ScriptPage<'_>,
     line: u32,
@@ -315,13 +308,22 @@ fn put_help(
     if let Some(kept) = kept {
         return put_cure_of_kept(page, kept, run);
     }
+    let left = match raised.raiser {
+        Raiser::Item => left_instead(run, ended_of(raised, run)),
+        _ => left_to_caller(raised, run),
+    };
+    if let Some(body) = left
+        && !is_to_leave(page, body, run)
+    {
+        return put_cure_of_left(page, body, run);
+    }
     let help = help_of(page, line, raised, run);
     if !help.is_empty() {
         page.page.write_help_text(help);
     }
 }
 
-/// Whether a panic may come of lines that a leave skipped, by what they would have made or would have made longer.
+/// Whether lines that a leave skipped may have led to a panic, because those lines would have made something, or made something longer.
 fn may_come_of_leave(line: u32, run: &WatchedRun<'_>) -> bool {
     match (run.end.pointer, run.end.values) {
         (Some(fault), _) => is_left_null(run, line, fault),

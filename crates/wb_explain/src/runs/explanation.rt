@@ -17,18 +17,18 @@ pub enum FindingKind {
     Cut,
 }
 
-/// In which order the parts after a finding's own message tell how it came about.
+/// In which order of time the parts after a finding's own message say how the finding came about.
 #[derive(Clone, Copy, Debug, PartialEq, Eq)]
 pub enum Told {
-    /// What came first is told first, and the finding's own message is about what came before that.
+    /// The earliest event is told first, and the finding's own message is about what came before that event.
     Forwards,
-    /// What came last is told first.
+    /// The latest event is told first.
     Backwards,
     /// In no order of time.
     Unordered,
 }
 
-/// A range of an explanation's parts: their indexes from one up to another.
+/// A range of an explanation's parts: their indexes from `from` up to, but without, `to`.
 #[derive(Clone, Copy, Debug, PartialEq, Eq)]
 pub struct Parts {
     pub from: usize,
@@ -48,20 +48,20 @@ impl Parts {
     }
 }
 
-/// A finding: which parts of the explanation tell of it.
+/// A finding: which parts of the explanation are about this finding.
 #[derive(Clone, Copy, Debug, PartialEq, Eq)]
 pub struct Finding {
     pub kind: FindingKind,
-    /// The index of its own message.
+    /// The index of the finding's own message.
     pub own: usize,
-    /// What is said of the run before any finding: which attempts failed, and where the run went on.
+    /// What is said about the run before any finding: which attempts failed, and where the run went on.
     pub before: Parts,
-    /// What is said of this finding below its own message.
+    /// What is said about this finding below its own message.
     pub way: Parts,
     pub told: Told,
 }
 
-/// What is explained.
+/// An explanation.
 #[derive(Drop)]
 pub struct Explanation {
     /// The text for standard error; empty if there is nothing to say.
@@ -84,7 +84,7 @@ impl Explanation {
         }
     }
 
-    /// Adds what else is explained. The only error is that memory ran out; a part of it may then have been added.
+    /// Adds another explanation at the end. The only error is that memory ran out; a part of `more` may then have been added.
     pub fn add(&mut self, more: &Explanation) -> Result<(), AllocError> {
         let (length, count) = (self.text.len(), self.parts.len());
         self.text.push_str(more.text.as_str())?;

@@ -1,4 +1,4 @@
-//! What is said of an attempt that failed: the line that made it, and where the run went on.
+//! What is said about an attempt that failed: the line that made it, and where the run went on.
 
 use crate::runs::blame::panicked_at;
 use crate::runs::counts::article_of;
@@ -7,10 +7,10 @@ use wb_heap_model::heap::Attempt;
 use wb_history::{AttemptMade, Maker, WatchedRun};
 use wb_meaning::run::Outcome;
 
-/// Where a run went on after an attempt that failed, as far as messages say it.
+/// Where a run went on after an attempt that failed, as far as messages say so.
 #[derive(Clone, Copy, Debug, PartialEq, Eq)]
 pub enum Next {
-    /// Nothing is said: the run ended there, or it went on with the line that panicked, of which the panic's own message tells.
+    /// Nothing is said: the run ended there, or it went on with the line that panicked, which the panic's own message names.
     Unsaid,
     /// With another line.
     Line(u32),
@@ -21,7 +21,7 @@ pub enum Next {
 }
 
 impl Next {
-    /// The line with which the run went on; `None` if none is named.
+    /// The line with which the run went on; `None` if no line is named.
     pub fn line(self) -> Option<u32> {
         match self {
             Next::Line(line) | Next::Again(line) => Some(line),
@@ -66,7 +66,7 @@ pub fn put_failed_here(
     )
 }
 
-/// Where the run went on after an attempt that failed, which a line of the script made.
+/// Where the run went on after a failed attempt of a line of the script.
 pub fn next_after(maker: Maker<'_>, run: &WatchedRun<'_>) -> Next {
     let again = maker.idle >= 2 && maker.gives_null();
     let line = if again { maker.line } else { maker.after };
@@ -85,7 +85,7 @@ pub fn next_after(maker: Maker<'_>, run: &WatchedRun<'_>) -> Next {
     }
 }
 
-/// Says where the run went on. If it went on with the line that failed, only the line's number is given.
+/// Says where the run went on. If the run went on with the line that failed, gives only the number of this line.
 pub fn put_next(page: &mut ScriptPage<'_>, next: Next) -> Written {
     match next {
         Next::Unsaid => Ok(()),

@@ -1,4 +1,4 @@
-//! What is said of the longest heap of a run: what fills it at the last rise, the attempt whose cell ends where the required length ends.
+//! What fills the heap at the last rise of a run. The cell of this attempt ends exactly at the heap length that the run requires.
 
 use crate::runs::counts::Many;
 use crate::runs::script_page::{ScriptPage, Written};
@@ -7,7 +7,7 @@ use wb_heap_model::heap::Kind;
 use wb_heap_model::size::Rise;
 use wb_history::{History, Part, PartEnd};
 
-/// The most groups of cells that are told one by one.
+/// The most groups of cells that are listed one by one.
 const MOST_GROUPS: usize = 5;
 
 /// What a cell is at the last rise.
@@ -17,16 +17,16 @@ enum What {
     Cell,
     Text,
     Object,
-    /// The cell that this attempt moves, at its old place.
+    /// The cell, at its old place, that the attempt of the last rise moves.
     Moving,
 }
 
-/// Cells of one kind that got their lengths from the same line. Groups are ordered by `order` first.
+/// Cells of one kind whose lengths the same line set. Groups are sorted by `order` first.
 #[derive(Clone, Copy, PartialEq, Eq, PartialOrd, Ord)]
 struct Group {
-    /// 0 until all cells are in groups; then the less, the more bytes the group has.
+    /// 0 until all cells are in groups. After that, a group with more bytes has a smaller `order`.
     order: u32,
-    /// 0 for the cell of the cleanup stack.
+    /// The line that set the lengths; 0 for the cell of the cleanup stack.
     line: u32,
     what: What,
     count: u32,
@@ -59,7 +59,7 @@ impl Group {
     }
 }
 
-/// Where a cell begins and ends, in bytes. Extents are ordered by their places.
+/// Where a cell begins and ends, in bytes. Extents are sorted by their places.
 #[derive(Clone, Copy, PartialEq, Eq, PartialOrd, Ord)]
 struct Extent {
     place: u32,
@@ -73,8 +73,8 @@ struct Holes {
     bytes: u32,
 }
 
-/// Says what fills the heap at the last of these rises, unless that is the first attempt. `history` is that of the run without failure, with
-/// all that a picture draws.
+/// Says what fills the heap at the last of these rises, unless this rise is the first attempt. `history` is the history of the run without
+/// failure, with all that a picture draws.
 pub fn put_filled(
     page: &mut ScriptPage<'_>,
     alloc: Global,
@@ -106,14 +106,14 @@ pub fn put_filled(
     Ok(())
 }
 
-/// Whether a part of a cell's life is there when the attempt of a step is made. What ends in the same step ends after that attempt, but a
-/// cell that was resized has another part then.
+/// Whether a part of a cell's life is there when the attempt of a step is made. A part that ends in this step still counts, unless a
+/// resize ended it: the cell then has a new part.
 fn is_there(part: &Part, step: u32) -> bool {
     let is_last_step = part.gone == step && part.end != PartEnd::Resized;
     part.from <= step && (part.gone > step || is_last_step)
 }
 
-/// The groups of the cells that are there in a step, the largest first.
+/// The groups of the cells that exist in a step, the largest group first.
 fn groups_of(alloc: Global, parts: &[Part], step: u32) -> Result<Vec<Group>, AllocError> {
     let mut each = Vec::new(alloc);
     for part in parts {
@@ -133,7 +133,7 @@ fn groups_of(alloc: Global, parts: &[Part], step: u32) -> Result<Vec<Group>, All
     Ok(groups)
 }
 
-/// Adds a group after the others, or to the last of them if that has the same line and kind.
+/// Adds a group after the others, or adds it to the last group if both have the same line and kind.
 fn add_sorted(groups: &mut Vec<Group>, group: &Group) -> Written {
     if let Some(last) = groups.last_mut()
         && last.line == group.line
@@ -146,7 +146,7 @@ fn add_sorted(groups: &mut Vec<Group>, group: &Group) -> Written {
     Ok(())
 }
 
-/// The holes below the last cell that is there in a step.
+/// The holes below the last cell that exists in a step.
 fn holes_of(alloc: Global, parts: &[Part], step: u32) -> Result<Holes, AllocError> {
     let mut extents = Vec::new(alloc);
     for part in parts {
@@ -188,7 +188,7 @@ fn put_groups(page: &mut ScriptPage<'_>, number: u32, groups: &[Group]) {
     }
 }
 
-/// Writes the row of a group: its bytes, its cells, and the line that gave them their lengths.
+/// Writes the row of a group: its bytes, its cells, and the line that set the lengths of these cells.
 fn put_group(page: &mut ScriptPage<'_>, number: u32, group: &Group) {
     let Group {
         line,

@@ -1,37 +1,55 @@
-//! What is said of a heap check that failed: how many cells it expected, how many it found, which line made each of these, and which
+//! What is said about a failed heap check: how many cells it expected, how many it found, which line made each found cell, and which
 //! attempts failed by the script's own setting.
 
 use crate::runs::counts::{Many, of_one_or_more};
-use crate::runs::panics::Meaning;
+use crate::runs::losses::{is_lost, put_held, put_loss};
 use crate::runs::script_page::{ScriptPage, Written};
 use std::fmt;
 use std::fmt::{Display, Formatter, Write};
 use wb_heap_model::heap::Answer;
-use wb_history::{Counted, OpenMark, WatchedRun};
+use wb_history::{Counted, Life, OpenMark, WatchedRun};
 use wb_tree::script::Statement;
 
-/// The most cells and attempts that are told of.
+/// The most cells, and the most attempts, that are listed.
 const MOST_ROWS: usize = 20;
 
-/// Up to how many counted cells also the pointers are named that got them last.
+/// The most counted cells for which the explanation also names the pointers last set to them.
 const MOST_HELD: usize = 3;
 
-/// What it means that a heap check found another number of cells than it expected, and what to look for.
-pub fn meaning_of_check(counted: &Counted, run: &WatchedRun<'_>) -> Meaning {
-    let help = if mark_left(counted, run).is_some() {
+/// Returns what to do about a failed heap check. Returns an empty text if the messages about the counted cells already say what to do.
+pub fn cure_of_check(
+    page: &ScriptPage<'_>,
+    counted: &Counted,
+    run: &WatchedRun<'_>,
+) -> &'static str {
+    if mark_left(counted, run).is_some() {
         "a leave closes no mark: put `mark` and `markend` around the TRAP, where no leave comes between them"
-    } else if i64::from(counted.found) > i64::from(counted.expected) {
-        cure_of_more(counted, run)
+    } else if are_more(counted) {
+        cure_of_more(page, counted, run)
     } else if was_refused(counted, run) {
         "a cell that it was to count was refused: expect as many as were granted, or let the line that makes the cell leave"
     } else {
         "look for a cell that was refused, freed too early, or made before the mark"
-    };
-    ("", help)
+    }
 }
 
-/// What to do about more cells than a check expects.
-fn cure_of_more(counted: &Counted, run: &WatchedRun<'_>) -> &'static str {
+/// Whether a check found more cells than it expected.
+fn are_more(counted: &Counted) -> bool {
+    i64::from(counted.found) > i64::from(counted.expected)
+}
+
+/// What to do about too many cells at a check. Empty if those cells that aren't known to be lost are no more than the check expects.
+fn cure_of_more(page: &ScriptPage<'_>, counted: &Counted, run: &WatchedRun<'_>) -> &'static str {
+    let mut left = i64::from(counted.expected);
+    for cell in counted.cells.as_slice() {
+        match run.history.lives.find(*cell) {
+            Some(life) if is_lost(page, life, run) => {}
+            _ => left = left.saturating_sub(1),
+        }
+    }
+    if left >= 0 {
+        return "";
+    }
     let lowest = counted.lowest().and_then(|it| run.history.lives.find(it));
     match lowest.and_then(|it| it.held) {
         Some(held) if held.is_field() => {
@@ -41,7 +59,7 @@ fn cure_of_more(counted: &Counted, run: &WatchedRun<'_>) -> &'static str {
     }
 }
 
-/// Whether a line that gives null met a failed attempt after the mark from which a check counts.
+/// Whether an attempt failed after the mark from which a check counts, in a line that then gives null.
 fn was_refused(counted: &Counted, run: &WatchedRun<'_>) -> bool {
     let is_of_all = matches!(run.end.statement, Some(Statement::CheckAll(_)));
     let since = match run.history.marks.newest() {
@@ -81,38 +99,11 @@ impl Display for CountedPlace {
     }
 }
 
-/// Tells which line made each cell that a check counted, and which attempts failed by the script's own setting.
+/// Says which line made each counted cell, and how the cell was lost. Says also which attempts failed by the script's own setting.
 pub fn put_counted(page: &mut ScriptPage<'_>, counted: &Counted, run: &WatchedRun<'_>) -> Written {
     for cell in counted.cells.iter().take(MOST_ROWS) {
-        let Some(life) = run.history.lives.find(*cell) else {
-            continue;
-        };
-        let (at, made) = match (life.grown.is_some(), life.is_reallocated()) {
-            (true, _) => (life.grown, "made, moved or grown"),
-            (false, true) => (life.made, "made, moved or grown"),
-            (false, false) => (life.made, "made"),
-        };
-        let length = life.length;
-        let place = CountedPlace {
-            place: cell.place,
-            is_lowest: counted.lowest() == Some(*cell),
-        };
-        page.mark_word(
-            at.number(),
-            1,
-            format_args!("counted: a cell that was {made} here: {length} bytes at place {place}"),
-        )?;
-        if counted.cells.len() <= MOST_HELD
-            && let Some(held) = life.held
-            && held.line != at
-            && held.line != life.made
-        {
-            let name = page.word(held.line.number(), 1);
-            page.mark_new(
-                held.line.number(),
-                1,
-                format_args!("`{name}` got that cell last, here"),
-            )?;
+        if let Some(life) = run.history.lives.find(*cell) {
+            put_cell(page, life, counted, run)?;
         }
     }
     let more = (counted.found as usize).saturating_sub(MOST_ROWS);
@@ -132,11 +123,58 @@ pub fn put_counted(page: &mut ScriptPage<'_>, counted: &Counted, run: &WatchedRu
     put_failed_by_script(page, run)
 }
 
-/// The mark that a leave left open, and the line that closed it before the check that failed; 0 if it is the mark from which this check
-/// counts. `None` if there is no such mark, if the check counts all cells, or if it found too many: a mark that was left open hides cells.
+/// Says which line made a counted cell. If one line made several counted cells, says only for the first of them how it was lost.
+fn put_cell(
+    page: &mut ScriptPage<'_>,
+    life: Life,
+    counted: &Counted,
+    run: &WatchedRun<'_>,
+) -> Written {
+    let (at, made) = match (life.grown.is_some(), life.is_reallocated()) {
+        (true, _) => (life.grown, "made, moved or grown"),
+        (false, true) => (life.made, "made, moved or grown"),
+        (false, false) => (life.made, "made"),
+    };
+    let length = life.length;
+    let place = CountedPlace {
+        place: life.pointer.place,
+        is_lowest: counted.lowest() == Some(life.pointer),
+    };
+    page.mark_word(
+        at.number(),
+        1,
+        format_args!("counted: a cell that was {made} here: {length} bytes at place {place}"),
+    )?;
+    page.begin_way(at.number())?;
+    if are_more(counted) && is_lost(page, life, run) && is_first(life, counted, run) {
+        put_loss(page, life, run)
+    } else if counted.cells.len() <= MOST_HELD {
+        put_held(page, life)
+    } else {
+        Ok(())
+    }
+}
+
+/// Whether this cell is the first of the counted cells that its line made.
+fn is_first(life: Life, counted: &Counted, run: &WatchedRun<'_>) -> bool {
+    for cell in counted.cells.as_slice() {
+        if *cell == life.pointer {
+            return true;
+        }
+        if let Some(other) = run.history.lives.find(*cell)
+            && other.made == life.made
+        {
+            return false;
+        }
+    }
+    true
+}
+
+/// The mark that a leave left open, and the line that closed this mark before the check failed; 0 if the check counts from this mark.
+/// `None` if there is no such mark, if the check counts all cells, or if it found too many: a mark that was left open hides cells.
 fn mark_left(counted: &Counted, run: &WatchedRun<'_>) -> Option<(OpenMark, u32)> {
     let is_of_all = matches!(run.end.statement, Some(Statement::CheckAll(_)));
-    if is_of_all || i64::from(counted.found) > i64::from(counted.expected) {
+    if is_of_all || are_more(counted) {
         return None;
     }
     match run.history.marks.newest() {
@@ -145,7 +183,7 @@ fn mark_left(counted: &Counted, run: &WatchedRun<'_>) -> Option<(OpenMark, u32)>
     }
 }
 
-/// Tells of the mark that a leave left open, so that another `markend` closed it, or is to close it.
+/// Shows the mark that a leave left open. Another `markend` than the mark's own closed this mark, or is to close it.
 fn put_mark(page: &mut ScriptPage<'_>, counted: &Counted, run: &WatchedRun<'_>) -> Written {
     let Some((mark, closed)) = mark_left(counted, run) else {
         return Ok(());
@@ -170,7 +208,7 @@ fn put_mark(page: &mut ScriptPage<'_>, counted: &Counted, run: &WatchedRun<'_>) 
     )
 }
 
-/// Tells which attempts failed by the script's own setting, unless some failed by the run's rule.
+/// Says which attempts failed by the script's own setting, unless some attempts failed by the run's rule.
 fn put_failed_by_script(page: &mut ScriptPage<'_>, run: &WatchedRun<'_>) -> Written {
     let failed = run.history.attempts.failed_counts();
     if failed.by_rule > 0 || failed.by_script == 0 {

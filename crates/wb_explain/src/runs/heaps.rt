@@ -1,5 +1,5 @@
-//! What is said of a table of how a script's runs end in heaps of every length: which line's attempt is refused first where the runs leak
-//! or panic, and in which heaps they are cut.
+//! What is said about a table of how a script's runs end in heaps of every length: which line's attempt is refused first if a run leaks
+//! or panics, and in which heaps runs are cut.
 
 use crate::runs::counts::Many;
 use crate::runs::cuts::put_budget_help;
@@ -25,7 +25,7 @@ pub fn greatest_bad(ranges: &[LengthRange]) -> Option<u32> {
     greatest
 }
 
-/// Says what runs in heaps of these lengths show. `attempts` are those of the run in the longest heap; `None` if no run leaks or panics.
+/// Says what runs in heaps of these lengths show. `attempts` are the attempts in the longest heap; `None` if no run leaks or panics.
 pub fn put_heaps(
     page: &mut ScriptPage<'_>,
     alloc: Global,
@@ -41,7 +41,7 @@ pub fn put_heaps(
     Ok(())
 }
 
-/// Writes the stories of these lengths, row by row, and how many more ranges have a story that isn't told.
+/// Writes the stories of these lengths, row by row, and how many more ranges have stories that are left out.
 fn put_stories(
     page: &mut ScriptPage<'_>,
     alloc: Global,
@@ -63,8 +63,8 @@ fn put_stories(
     Ok(())
 }
 
-/// Writes the row of a story: its lengths, how the runs end, and which line's attempt is refused first, with the attempt's number if that
-/// is the same for all lengths of the story.
+/// Writes the row of a story: its lengths, how the runs end, and which line's attempt is refused first. Adds the attempt's number if
+/// it is the same for all lengths of the story.
 fn put_story(page: &mut ScriptPage<'_>, story: &Story) {
     let (spread, end) = (story.spread, EndInWords(story.end));
     page.page.begin_row();
@@ -82,7 +82,7 @@ fn put_story(page: &mut ScriptPage<'_>, story: &Story) {
     page.page.end_line();
 }
 
-/// Says in heaps of which lengths the runs are cut, if there are any.
+/// Says for which lengths of heaps the runs are cut, if there are such lengths.
 fn put_cut_heaps(page: &mut ScriptPage<'_>, budget: u32, ranges: &[LengthRange]) {
     let Some(spread) = cut_lengths(ranges) else {
         return;
@@ -95,7 +95,7 @@ fn put_cut_heaps(page: &mut ScriptPage<'_>, budget: u32, ranges: &[LengthRange])
     put_budget_help(page, budget, "there");
 }
 
-/// The lengths of the heaps whose runs are cut. Only the budget can cut them, since no limit is past the ceiling. `None` if no run is cut.
+/// The lengths of the heaps whose runs are cut; `None` if no run is cut. Only the budget can cut runs: no limit is past the ceiling.
 fn cut_lengths(ranges: &[LengthRange]) -> Option<Spread> {
     let mut cut: Option<Spread> = None;
     for index in 0..ranges.len() {

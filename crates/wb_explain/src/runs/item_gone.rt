@@ -1,12 +1,13 @@
-//! What is said of an item whose cell was gone when the cleanup stack destroyed the item, or that used such a cell: where it was pushed,
-//! and which item was popped in its place.
+//! What is said about an item if its cell was gone when the cleanup stack destroyed the item, or if its destruction used such a cell: where
+//! the item was pushed, and which item was popped in its place.
 
 use crate::runs::script_page::{ScriptPage, Written};
-use wb_history::{By, End, Ended, Popped, WatchedRun};
+use crate::runs::taken::{Then, put_left};
+use wb_history::{By, End, Ended, Popped, Stay, WatchedRun};
 use wb_machine::Raiser;
 
-/// Returns what to do about an item whose cell is gone because another item was popped in its place, or because the cell has two; `None` if
-/// it is gone for another reason.
+/// Returns what to do about an item whose cell is gone because another item was popped in its place, or because the cell has two items;
+/// `None` if the cell is gone for another reason.
 pub fn cure_of_gone(run: &WatchedRun<'_>, ended: Ended) -> Option<&'static str> {
     if ended.by != By::Line {
         return Some("it has two items: push it once, or pop one of the two");
@@ -19,7 +20,7 @@ pub fn cure_of_gone(run: &WatchedRun<'_>, ended: Ended) -> Option<&'static str> 
     }
 }
 
-/// Returns whether an item panicked because another item of its cell had ended the cell's life so.
+/// Returns whether an item panicked because another item of the same cell had ended the cell's life.
 pub fn has_two_items(run: &WatchedRun<'_>, ended: Option<Ended>) -> bool {
     match (run.end.raised, ended) {
         (Some(raised), Some(ended)) => raised.raiser == Raiser::Item && ended.by != By::Line,
@@ -27,8 +28,8 @@ pub fn has_two_items(run: &WatchedRun<'_>, ended: Option<Ended>) -> bool {
     }
 }
 
-/// The pop that took off the item above the item destroyed last, by a line of the body in which the cell was freed; `None` if there
-/// is none.
+/// The pop that took off the item above the item that was destroyed last. The pop must be in the body that freed the cell; `None` if there
+/// is no such pop.
 fn popped_instead(run: &WatchedRun<'_>, ended: Option<Ended>) -> Option<Popped> {
     let (ended, above) = (ended?, run.history.last_item?.above?);
     let bodies = &run.history.bodies;
@@ -41,7 +42,19 @@ fn popped_instead(run: &WatchedRun<'_>, ended: Option<Ended>) -> Option<Popped> 
     }
 }
 
-/// Tells where the item destroyed last was pushed, and which item was popped in its place.
+/// Returns the body that had left an item, if this item was popped in place of the item destroyed last; `None` if no such body is known.
+/// `ended` is how the life of the destroyed item's cell ended.
+pub fn left_instead(run: &WatchedRun<'_>, ended: Option<Ended>) -> Option<Stay> {
+    let above = popped_instead(run, ended)?;
+    let taken = run.history.items.of_callee?;
+    if taken.line == above.line.number() && taken.pushed == above.pushed.number() {
+        Some(taken.body)
+    } else {
+        None
+    }
+}
+
+/// Says where the item that was destroyed last was pushed, and which item was popped in its place.
 pub fn put_item_gone(
     page: &mut ScriptPage<'_>,
     run: &WatchedRun<'_>,
@@ -50,6 +63,9 @@ pub fn put_item_gone(
     page.tell_unordered();
     if let Some(item) = run.history.last_item {
         page.mark_new(item.pushed.line, 1, said_of_push(ended))?;
+    }
+    if let Some(body) = left_instead(run, ended) {
+        put_left(page, body, Then(None), run)?;
     }
     match popped_instead(run, ended) {
         Some(above) => page.mark_new(
@@ -64,7 +80,7 @@ pub fn put_item_gone(
     }
 }
 
-/// What is said where an item was pushed that raised a panic when it was destroyed. `ended` is how the life of its cell ended.
+/// What is said at the line that pushed an item, if the item's destruction raised a panic. `ended` is how the life of its cell ended.
 fn said_of_push(ended: Option<Ended>) -> &'static str {
     match ended {
         Some(ended) if ended.by != By::Line => "its older item, destroyed last, was pushed here",
@@ -72,7 +88,7 @@ fn said_of_push(ended: Option<Ended>) -> &'static str {
     }
 }
 
-/// Tells where the item destroyed last was pushed, whose destruction used a cell that was gone.
+/// Says where the item that was destroyed last was pushed, if its destruction used a cell that was gone.
 pub fn put_user(page: &mut ScriptPage<'_>, run: &WatchedRun<'_>) -> Written {
     page.tell_unordered();
     match run.history.last_item {

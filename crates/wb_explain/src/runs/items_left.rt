@@ -1,24 +1,24 @@
-//! What is said of the cleanup stack where a panic is about its items: those that are left, those that were to be popped, and the one
-//! on top.
+//! What is said about the cleanup stack if a panic is about its items: the items that are left, the items that were to be popped, and the
+//! item on top.
 
 use crate::runs::counts::{Many, of_one_or_more};
 use crate::runs::panics::Meaning;
 use crate::runs::paths::{AfterLine, body_name};
 use crate::runs::script_page::{ScriptPage, Written};
 use crate::runs::taken::{
-    LEFT_TO_CALLER, TAKEN_FROM_CALLER, Then, cure_of_off, put_item_off, put_left, put_of_caller,
+    TAKEN_FROM_CALLER, Then, cure_of_off, put_item_off, put_left, put_of_caller,
 };
 use wb_heap_model::heap::Panic;
 use wb_history::{ItemOnStack, Origin, Stay, WatchedRun};
 use wb_machine::{Raised, Raiser};
 
-/// The most items that are told of.
+/// The most items that are listed.
 const MOST_ITEMS: usize = 5;
 
 /// What to do about items that are left when a TRAP ends.
 pub const POP_FIRST: &str = "pop what was pushed, with `pop` or `popdestroy`, before the TRAP ends";
 
-/// What the panic means that the end of `main` raised.
+/// What a panic means, and what to look for, if the end of `main` raised the panic.
 pub const OF_MAIN: Meaning = (
     "",
     "pop what was pushed, with `pop` or `popdestroy`, before `main` ends",
@@ -60,7 +60,7 @@ pub fn put_too_many(page: &mut ScriptPage<'_>, wanted: i32, run: &WatchedRun<'_>
     }
 }
 
-/// Says that the newest item isn't the one that was to be popped.
+/// Says that the newest item isn't the item that was to be popped.
 pub fn put_another(page: &mut ScriptPage<'_>, line: u32, run: &WatchedRun<'_>) {
     let name = page.word(line, 1);
     page.page.write(format_args!("the newest item on the cleanup stack is not that of `{name}`"));
@@ -69,15 +69,14 @@ pub fn put_another(page: &mut ScriptPage<'_>, line: u32, run: &WatchedRun<'_>) {
     }
 }
 
-/// Tells of the items that a panic of the cleanup stack is about; nothing of any other panic.
+/// Shows the items that a panic of the cleanup stack is about; shows nothing for any other panic.
 pub fn put_items(page: &mut ScriptPage<'_>, raised: Raised, run: &WatchedRun<'_>) -> Written {
     match raised.panic {
         Panic::ITEMS_LEFT => {
-            put_each(page, items_left(raised, run), run)?;
-            match run.history.items.of_callee {
-                Some(taken) => put_left(page, taken.body, Then(Some(taken)), run),
-                None => Ok(()),
+            if let Some(taken) = run.history.items.of_callee {
+                put_left(page, taken.body, Then(Some(taken)), run)?;
             }
+            put_each(page, items_left(raised, run), run)
         }
         Panic::ANOTHER_ITEM_ON_TOP => put_top(page, run),
         Panic::POP_BELOW_TRAP => {
@@ -89,7 +88,7 @@ pub fn put_items(page: &mut ScriptPage<'_>, raised: Raised, run: &WatchedRun<'_>
     }
 }
 
-/// What to do about more items to be popped than the innermost TRAP has.
+/// What to do if more items are to be popped than were pushed since the innermost TRAP began.
 pub fn cure_of_below(page: &ScriptPage<'_>, run: &WatchedRun<'_>) -> &'static str {
     match (items_below(run), run.history.items.of_caller) {
         (_, Some(_)) => TAKEN_FROM_CALLER,
@@ -98,7 +97,7 @@ pub fn cure_of_below(page: &ScriptPage<'_>, run: &WatchedRun<'_>) -> &'static st
     }
 }
 
-/// The items that are left from a TRAP that ended, or from `main`.
+/// The items that were left on the cleanup stack when a TRAP or `main` ended.
 fn items_left<'b>(raised: Raised, run: &'b WatchedRun<'_>) -> &'b [ItemOnStack] {
     let all = run.history.items.all();
     let floor = match (raised.raiser, run.history.traps.last_ended()) {
@@ -109,23 +108,11 @@ fn items_left<'b>(raised: Raised, run: &'b WatchedRun<'_>) -> &'b [ItemOnStack] 
     left
 }
 
-/// Tells where each item was pushed and, if the body that pushed it has ended, which body that is.
+/// Says where each item was pushed and, if the body that pushed the item has ended, which body this is.
 fn put_each(page: &mut ScriptPage<'_>, items: &[ItemOnStack], run: &WatchedRun<'_>) -> Written {
     for item in items.iter().rev().take(MOST_ITEMS) {
-        let line = item.pushed.line;
         let path = run.history.calls.lines_of(item.pushed.path)?;
-        if path.len() > run.end.path.len() {
-            let name = body_name(page, line, run);
-            let depth = u32::try_from(path.len()).unwrap_or(0);
-            let end = AfterLine(run.history.calls.last_line_of(depth, item.pushed.step));
-            page.mark_new(
-                line,
-                1,
-                format_args!("this item was pushed here, and `{name}` ended{end} without a pop"),
-            )?;
-        } else {
-            page.mark_new(line, 1, "this item was pushed here and not popped")?;
-        }
+        put_pushed(page, *item, path.len(), run)?;
         for at in run.end.path.len()..path.len() {
             if let Some(before) = at.checked_sub(1)
                 && let Some(call) = path.get(before)
@@ -138,7 +125,46 @@ fn put_each(page: &mut ScriptPage<'_>, items: &[ItemOnStack], run: &WatchedRun<'
     Ok(())
 }
 
-/// Tells after which line a body ended that had made a call, without a pop of the item that the call had left; nothing of the body in which
+/// Says where an item was pushed, in a body at `depth`. Says also after which line this body ended, or which line took off another item.
+fn put_pushed(
+    page: &mut ScriptPage<'_>,
+    item: ItemOnStack,
+    depth: usize,
+    run: &WatchedRun<'_>,
+) -> Written {
+    let (line, bodies) = (item.pushed.line, &run.history.bodies);
+    if depth > run.end.path.len() {
+        let name = body_name(page, line, run);
+        let last = match item.left {
+            Some(body) if bodies.body_of(body.last) == bodies.body_of(line) => body.last,
+            _ => run
+                .history
+                .calls
+                .last_line_of(u32::try_from(depth).unwrap_or(0), item.pushed.step),
+        };
+        let end = AfterLine(last);
+        return page.mark_new(
+            line,
+            1,
+            format_args!("this item was pushed here, and `{name}` ended{end} without a pop"),
+        );
+    }
+    match run.history.items.of_callee {
+        Some(taken) if bodies.body_of(taken.line) == bodies.body_of(line) => {
+            let off = taken.line;
+            page.mark_new(
+                line,
+                1,
+                format_args!(
+                    "this item was pushed here, and stayed when line {off} took off the other one"
+                ),
+            )
+        }
+        _ => page.mark_new(line, 1, "this item was pushed here and not popped"),
+    }
+}
+
+/// Says after which line a calling body ended without a pop of the item that its call had left. Says nothing for the body in which
 /// the run ended.
 fn put_caller(
     page: &mut ScriptPage<'_>,
@@ -161,13 +187,13 @@ fn put_caller(
     )
 }
 
-/// Tells where the newest item was pushed, and what became of the item that was expected in its place.
+/// Says where the newest item was pushed, and what became of the item that was expected in its place.
 fn put_top(page: &mut ScriptPage<'_>, run: &WatchedRun<'_>) -> Written {
     put_newest(page, run)?;
-    if let Some(body) = newest_left_by(run) {
+    if let Some(body) = run.history.items.newest().and_then(|it| it.left) {
         put_left(page, body, Then(None), run)?;
     }
-    if let Some(item) = item_meant(run) {
+    if let Some(item) = run.history.items.find(run.end.names) {
         let line = item.pushed.line;
         return page.mark_new(line, 1, "the one that is meant was pushed here");
     }
@@ -200,28 +226,22 @@ fn put_top(page: &mut ScriptPage<'_>, run: &WatchedRun<'_>) -> Written {
     }
 }
 
-/// The item that was expected to be the newest: that of the pointer that the line reads. `None` if that pointer has no item.
-fn item_meant(run: &WatchedRun<'_>) -> Option<ItemOnStack> {
-    for item in run.history.items.all() {
-        if item.pointer() == run.end.names {
-            return Some(*item);
-        }
+/// Returns the body that left an item to its caller, if this may have caused the cleanup stack's panic; `None` if no such body is known.
+pub fn left_to_caller(raised: Raised, run: &WatchedRun<'_>) -> Option<Stay> {
+    match (raised.panic, run.history.items.of_callee) {
+        (Panic::ITEMS_LEFT, Some(taken)) => Some(taken.body),
+        (Panic::ITEMS_LEFT, None) => items_left(raised, run).last()?.left,
+        (Panic::ANOTHER_ITEM_ON_TOP, _) => run.history.items.newest()?.left,
+        _ => None,
     }
-    None
 }
 
-/// The body that left the newest item to its caller; `None` if none is known.
-fn newest_left_by(run: &WatchedRun<'_>) -> Option<Stay> {
-    let newest = run.history.items.newest()?;
-    run.history.calls.left_by(newest.depth, newest.pushed.step)
-}
-
-/// What to do if the newest item isn't the expected one.
+/// What to do if the newest item isn't the expected item.
 pub fn cure_of_another(run: &WatchedRun<'_>) -> &'static str {
-    if newest_left_by(run).is_some() {
-        return LEFT_TO_CALLER;
-    }
-    match (item_meant(run), run.history.lives.find(run.end.names)) {
+    match (
+        run.history.items.find(run.end.names),
+        run.history.lives.find(run.end.names),
+    ) {
         (Some(_), _) if is_newest_of_failure(run) => {
             "the newest item was pushed on the way that a failed attempt led to: pop it on that way, too"
         }
@@ -239,7 +259,7 @@ pub fn cure_of_another(run: &WatchedRun<'_>) -> &'static str {
     }
 }
 
-/// Whether the newest item was pushed after an attempt of the same body had failed, by which a line gave null.
+/// Whether the newest item was pushed after an attempt in the same body had failed and its line had given null.
 fn is_newest_of_failure(run: &WatchedRun<'_>) -> bool {
     let Some(newest) = run.history.items.newest() else {
         return false;
@@ -252,12 +272,9 @@ fn is_newest_of_failure(run: &WatchedRun<'_>) -> bool {
         && bodies.body_of(it.maker.line) == body)
 }
 
-/// What to do about items that are left when a TRAP or `main` ends, where that is known of the newest: the body that pushed it had left it to
-/// its caller, and that ended too. `None` if nothing is known.
+/// What to do about items that are left when a TRAP or `main` ends, if a line took off an item that an ended body had left, or if the
+/// newest item was pushed at least two calls deeper than the body in which the run ended. `None` otherwise.
 pub fn cure_of_left(raised: Raised, run: &WatchedRun<'_>) -> Option<&'static str> {
-    if run.history.items.of_callee.is_some() {
-        return Some(LEFT_TO_CALLER);
-    }
     let newest = items_left(raised, run).last()?;
     let ended_in = u32::try_from(run.end.path.len()).unwrap_or(u32::MAX);
     if newest.depth < ended_in.saturating_add(2) {
@@ -268,7 +285,7 @@ pub fn cure_of_left(raised: Raised, run: &WatchedRun<'_>) -> Option<&'static str
     )
 }
 
-/// Tells where the newest item was pushed, if there is one.
+/// Says where the newest item was pushed, if there is one.
 fn put_newest(page: &mut ScriptPage<'_>, run: &WatchedRun<'_>) -> Written {
     match run.history.items.newest() {
         Some(newest) => page.mark_new(newest.pushed.line, 1, "the newest item was pushed here"),

@@ -1,24 +1,44 @@
-//! What is said of a pointer that is null or names a dead cell: which line gave it that value, and which line left before it gave it another.
+//! What is said about a pointer that is null or names a dead cell: which line set it so, and which line left before changing the pointer.
 
-use crate::runs::pointers::failed_for;
+use crate::runs::pointers::{failed_for, frees};
 use crate::runs::script_page::{ScriptPage, Written};
 use std::alloc::AllocError;
-use wb_history::{BodyKind, By, End, Ended, PointerFault, PointerState, PointerWrite, WatchedRun};
+use wb_history::{
+    BodyKind, By, End, Ended, NullOf, PointerFault, PointerState, PointerWrite, WatchedRun,
+    target_of,
+};
 
 /// Why a pointer is null or names a dead cell.
 #[derive(Clone, Copy)]
 pub enum Kept {
-    /// A line freed the cell, and the line `left` left before it gave the pointer another.
-    Dead { left: u32, ended: Ended },
-    /// A line set the pointer to null, and the line `left` left before it gave the pointer a cell.
-    Null { left: u32, write: PointerWrite },
-    /// An operation set the field to null, while a leave destroyed its item.
+    /// A line freed the cell, and the line `left` left before it gave the pointer another cell.
+    Dead {
+        left: u32,
+        ended: Ended,
+    },
+    /// The line `from` set this pointer, or its source in a copy, to null. The line `left` left before it set the same pointer to a cell.
+    Null {
+        left: u32,
+        write: PointerWrite,
+        from: u32,
+    },
+    /// An attempt of the line `from` failed and gave another pointer null. The line of `write` gave this null to the pointer at fault.
+    Unchecked {
+        write: PointerWrite,
+        from: u32,
+    },
+    /// An operation set the field to null, while the operation's item was being destroyed.
     ByOperation(PointerWrite),
-    /// A line freed the cell, and a line then gave the pointer what another one still named.
-    Copied { write: PointerWrite, ended: Ended },
+    /// A line copied the pointer from another pointer, the source. Before or after the copy, a line freed the cell that both named. The
+    /// line `left` left before it gave the source another cell; `left` is 0 if there is no such line.
+    Copied {
+        write: PointerWrite,
+        ended: Ended,
+        left: u32,
+    },
 }
 
-/// Returns why the pointer that a panic at a line is about is null or names a dead cell; `None` if no more is known than how its cell died.
+/// Returns why the pointer that a panic is about is null or names a dead cell; `None` if no more is known than how the cell died.
 pub fn kept_value(
     page: &ScriptPage<'_>,
     line: u32,
@@ -43,7 +63,7 @@ pub fn kept_value(
     }
 }
 
-/// Why a pointer is null that a line set to null.
+/// Why a pointer is null, if a line set the pointer to null.
 fn null_since(
     page: &ScriptPage<'_>,
     line: u32,
@@ -55,16 +75,45 @@ fn null_since(
     if body.kind == BodyKind::Operation && run.history.bodies.body_of(line) != body {
         return Ok(Some(Kept::ByOperation(write)));
     }
-    if !matches!(page.word(write.line, 0), "null" | "set") {
-        return Ok(None);
-    }
-    Ok(match line_left(page, line, fault, write.step, run)? {
-        Some(left) => Some(Kept::Null { left, write }),
-        None => None,
-    })
+    let (from, left) = match write.null_of {
+        Some(NullOf { line: from, .. }) if fails_at(from, run) => {
+            return Ok(if run.history.bodies.undoes(line) {
+                None
+            } else {
+                Some(Kept::Unchecked { write, from })
+            });
+        }
+        Some(NullOf { line: from, step }) => (
+            from,
+            line_left(page, from, page.word(from, 1), None, step, run)?,
+        ),
+        None if matches!(page.word(write.line, 0), "null" | "set") => {
+            let name = name_of(page, line, fault);
+            (
+                write.line,
+                line_left(page, line, name, Some(fault), write.step, run)?,
+            )
+        }
+        None => return Ok(None),
+    };
+    Ok(left.map(|left| Kept::Null { left, write, from }))
 }
 
-/// Why a pointer names a cell that a line freed; it got the cell in the step `since`.
+/// Whether an attempt of this line failed, and the line was to set a pointer to the new cell.
+fn fails_at(line: u32, run: &WatchedRun<'_>) -> bool {
+    for made in run.history.attempts.kept_attempts() {
+        if made.maker.line == line
+            && !made.is_granted()
+            && let Some(statement) = made.maker.statement
+            && target_of(statement).is_some()
+        {
+            return true;
+        }
+    }
+    false
+}
+
+/// Why a pointer names a cell that a line freed. The pointer was set to the cell in the step `since`.
 fn dead_since(
     page: &ScriptPage<'_>,
     line: u32,
@@ -73,34 +122,68 @@ fn dead_since(
     since: u32,
     run: &WatchedRun<'_>,
 ) -> Result<Option<Kept>, AllocError> {
-    if let Some(left) = line_left(page, line, fault, since, run)? {
+    let name = name_of(page, line, fault);
+    if let Some(left) = line_left(page, line, name, Some(fault), since, run)? {
         return Ok(Some(Kept::Dead { left, ended }));
     }
-    let is_by_destructor = run.history.bodies.body_of(ended.at.number()).kind
-        == BodyKind::Destructor;
     Ok(match fault.write {
-        Some(write) if !is_by_destructor && is_copied(page, write, ended) => {
-            Some(Kept::Copied { write, ended })
+        Some(write) if is_copied(page, write, ended, run) => {
+            let left = left_after(page, write, ended, since, run)?;
+            Some(Kept::Copied { write, ended, left })
         }
         _ => None,
     })
 }
 
-/// Whether a line gave a pointer what a field named, and another line had freed or deleted the cell by another name.
-fn is_copied(page: &ScriptPage<'_>, write: PointerWrite, ended: Ended) -> bool {
-    let source = page.word(write.line, 2);
+/// Whether a `set` copied a pointer whose cell was already dead, or whose cell a line of the same body then freed or deleted by another
+/// name. False if a destructor ended the cell's life.
+fn is_copied(
+    page: &ScriptPage<'_>,
+    write: PointerWrite,
+    ended: Ended,
+    run: &WatchedRun<'_>,
+) -> bool {
+    let (bodies, freed) = (&run.history.bodies, ended.at.number());
+    let is_here = bodies.body_of(freed) == bodies.body_of(write.line)
+        && page.word(freed, 1) != page.word(write.line, 1);
     page.word(write.line, 0) == "set"
-        && source.contains('.')
-        && page.word(ended.at.number(), 1) != source
-        && page.word(ended.at.number(), 1) != page.word(write.line, 1)
+        && bodies.body_of(freed).kind != BodyKind::Destructor
+        && (write.was_dead || is_here)
 }
 
-/// The line that the last leave left before it gave the pointer another value; `None` if it left no such line, or the pointer got its value
-/// later.
+/// The line that the last leave left in the body that freed a cell, below the line that freed the cell. 0 if there is none, if the leave
+/// came before the step `since`, or if `write` didn't copy the dead cell from the freed pointer.
+fn left_after(
+    page: &ScriptPage<'_>,
+    write: PointerWrite,
+    ended: Ended,
+    since: u32,
+    run: &WatchedRun<'_>,
+) -> Result<u32, AllocError> {
+    let freed = ended.at.number();
+    let Some(leave) = run.history.traps.last_leave() else {
+        return Ok(0);
+    };
+    if !write.was_dead || leave.at.step < since || page.word(freed, 1) != page.word(write.line, 2) {
+        return Ok(0);
+    }
+    let bodies = &run.history.bodies;
+    let lines = run.history.calls.lines_of(leave.at.path)?;
+    for left in lines.as_slice() {
+        if freed < *left && bodies.body_of(*left) == bodies.body_of(freed) {
+            return Ok(*left);
+        }
+    }
+    Ok(0)
+}
+
+/// The line that the last leave left, and that was to give another value to the pointer that the line `line` calls `name`. `None` if there
+/// is none, or if the leave came before the step `since`. `fault` is `None` unless a panic is about this pointer.
 fn line_left(
     page: &ScriptPage<'_>,
     line: u32,
-    fault: PointerFault,
+    name: &str,
+    fault: Option<PointerFault>,
     since: u32,
     run: &WatchedRun<'_>,
 ) -> Result<Option<u32>, AllocError> {
@@ -112,32 +195,34 @@ fn line_left(
     }
     let lines = run.history.calls.lines_of(leave.at.path)?;
     for left in lines.as_slice() {
-        if is_to_give(page, *left, line, fault, run) {
+        if is_to_give(page, *left, line, name, fault, run) {
             return Ok(Some(*left));
         }
     }
     Ok(None)
 }
 
-/// Whether the line `left`, which was left, was to give the pointer that a panic at the line `line` is about another value.
+/// Whether the line `left` was to give another value to the pointer that the line `line` calls `name`. A leave left the line `left`.
 fn is_to_give(
     page: &ScriptPage<'_>,
     left: u32,
     line: u32,
-    fault: PointerFault,
+    name: &str,
+    fault: Option<PointerFault>,
     run: &WatchedRun<'_>,
 ) -> bool {
     let bodies = &run.history.bodies;
-    let is_call = page.word(left, 0) == "callto"
-        && page.word(left, 1) == name_of(page, line, fault)
-        && bodies.body_of(left) == bodies.body_of(line);
-    let is_attempt = failed_for(run, line, fault).is_some_and(|it| it.maker.line == left
-        && !it.maker.gives_null());
-    is_call || is_attempt
+    let is_named = page.word(left, 1) == name && bodies.body_of(left) == bodies.body_of(line);
+    let is_attempt = match fault {
+        Some(fault) => failed_for(run, line, fault).is_some_and(|it| it.maker.line == left
+            && !it.maker.gives_null()),
+        None => is_named && fails_at(left, run),
+    };
+    is_named && page.word(left, 0) == "callto" || is_attempt
 }
 
-/// Returns the name of the pointer that a panic at a line is about. If the word is a field and the pointer is the one to the field's object,
-/// it is the part before the dot.
+/// Returns the name of the pointer that a panic at a line is about. If the word is a field and the pointer is the pointer to the field's
+/// object, the name is the part before the dot.
 pub fn name_of<'a>(page: &ScriptPage<'a>, line: u32, fault: PointerFault) -> &'a str {
     let word = page.word(line, fault.word);
     if fault.is_owner {
@@ -147,14 +232,19 @@ pub fn name_of<'a>(page: &ScriptPage<'a>, line: u32, fault: PointerFault) -> &'a
     }
 }
 
-/// Tells which line gave the pointer that a panic is about its value, where that says more than how its cell died.
+/// Says which line set the pointer that a panic is about, if this says more than how the pointer's cell died.
 pub fn put_kept(page: &mut ScriptPage<'_>, kept: Option<Kept>, run: &WatchedRun<'_>) -> Written {
     match kept {
-        Some(Kept::Dead { left, .. }) => put_left(page, left),
-        Some(Kept::Null { left, write }) => {
-            put_left(page, left)?;
+        Some(Kept::Dead { left, .. }) => {
+            let name = page.word(left, 1);
+            put_left(page, left, name)
+        }
+        Some(Kept::Null { left, write, .. }) => {
+            let name = page.word(left, 1);
+            put_left(page, left, name)?;
             put_null(page, write)
         }
+        Some(Kept::Unchecked { write, .. }) => put_null(page, write),
         Some(Kept::ByOperation(write)) => {
             put_null(page, write)?;
             match run.history.last_item {
@@ -166,9 +256,9 @@ pub fn put_kept(page: &mut ScriptPage<'_>, kept: Option<Kept>, run: &WatchedRun<
                 None => Ok(()),
             }
         }
-        Some(Kept::Copied { write, .. }) => {
+        Some(Kept::Copied { write, left, .. }) => {
             let (name, source) = (page.word(write.line, 1), page.word(write.line, 2));
-            page.tell_unordered();
+            put_left(page, left, source)?;
             page.mark_new(
                 write.line,
                 2,
@@ -185,8 +275,8 @@ pub fn put_kept(page: &mut ScriptPage<'_>, kept: Option<Kept>, run: &WatchedRun<
     }
 }
 
-fn put_left(page: &mut ScriptPage<'_>, left: u32) -> Written {
-    let name = page.word(left, 1);
+/// Says that the line `left` left, and gave the pointer `name` no other value. Writes nothing if `left` is 0.
+fn put_left(page: &mut ScriptPage<'_>, left: u32, name: &str) -> Written {
     page.tell_unordered();
     page.mark_new(
         left,
@@ -195,13 +285,35 @@ fn put_left(page: &mut ScriptPage<'_>, left: u32) -> Written {
     )
 }
 
-/// Tells which line made a pointer null, unless that is a line whose failed attempt is told of anyway.
+/// Says which line made a pointer null. If the line copied the null, says also which line first gave the null. Writes nothing if the line
+/// made an attempt: another message shows a failed attempt.
 fn put_null(page: &mut ScriptPage<'_>, write: PointerWrite) -> Written {
-    if !matches!(page.word(write.line, 0), "null" | "set" | "callto") {
-        return Ok(());
+    let (line, name) = (write.line, page.word(write.line, 1));
+    match page.word(line, 0) {
+        "set" => {
+            let source = page.word(line, 2);
+            page.mark_new(
+                line,
+                1,
+                format_args!("`{name}` became null here, from `{source}`"),
+            )?;
+        }
+        "null" | "callto" => {
+            page.mark_new(line, 1, format_args!("`{name}` became null here"))?;
+        }
+        _ => return Ok(()),
     }
-    let name = page.word(write.line, 1);
-    page.mark_new(write.line, 1, format_args!("`{name}` became null here"))
+    match write.null_of {
+        Some(NullOf { line: from, .. }) => {
+            let name = page.word(from, 1);
+            page.mark_new(
+                from,
+                1,
+                format_args!("that null came from here, where `{name}` became null"),
+            )
+        }
+        None => Ok(()),
+    }
 }
 
 /// Says what to do about a pointer that is null or names a dead cell.
@@ -209,24 +321,23 @@ pub fn put_cure_of_kept(page: &mut ScriptPage<'_>, kept: Kept, run: &WatchedRun<
     page.page.begin_help();
     match kept {
         Kept::Dead { left, ended } => put_cure_of_dead(page, left, ended, run),
-        Kept::Null { left, write } => {
-            let (line, name) = (write.line, page.word(write.line, 1));
+        Kept::Null { left, from, .. } => {
+            let name = page.word(from, 1);
             page.page.write(format_args!(
-                "let another pointer get the new cell first, and change `{name}` after that: line {left} may leave, and `{name}` is null since line {line}"
+                "let another pointer get the new cell first, and change `{name}` after that: line {left} may leave, and `{name}` is null since line {from}"
             ));
         }
+        Kept::Unchecked { write, from } => put_cure_of_unchecked(page, write.line, from),
         Kept::ByOperation(write) => {
             let name = page.word(run.history.bodies.body_of(write.line).line, 1);
             page.page.write(format_args!(
                 "the operation `{name}` undid more than was done: push its item only after all that it uses is set"
             ));
         }
-        Kept::Copied { write, ended } => {
-            let (source, line) = (page.word(write.line, 2), ended.at.number());
-            page.page.write(format_args!(
-                "`{source}` still named it after line {line}: give it another value there, or null"
-            ));
+        Kept::Copied { ended, left, .. } if left != 0 => {
+            put_cure_of_dead(page, left, ended, run);
         }
+        Kept::Copied { write, ended, .. } => put_cure_of_copied(page, write, ended, run),
     }
     page.page.end_line();
 }
@@ -246,5 +357,34 @@ fn put_cure_of_dead(page: &mut ScriptPage<'_>, left: u32, ended: Ended, run: &Wa
         page.page.write(format_args!(
             ", or let another pointer get the new {what} first: line {left} may leave"
         ));
+    }
+}
+
+/// Writes what to do about a pointer that the line `line` set to null. The null came from a failed attempt of the line `from`.
+fn put_cure_of_unchecked(page: &mut ScriptPage<'_>, line: u32, from: u32) {
+    let given = page.word(line, 1);
+    let (name, when) = match page.word(line, 0) {
+        "set" => (page.word(line, 2), "before"),
+        _ => (given, "after"),
+    };
+    page.page.write(format_args!(
+        "line {line} gave `{given}` the null that line {from} gives where its attempt fails: look at `{name}` {when} that, for example with `leaveifnull {name}`"
+    ));
+}
+
+/// Writes what to do about a pointer that a line copied, if the copy or its source still named a cell after the end of the cell's life.
+fn put_cure_of_copied(
+    page: &mut ScriptPage<'_>,
+    write: PointerWrite,
+    ended: Ended,
+    run: &WatchedRun<'_>,
+) {
+    let line = ended.at.number();
+    let name = page.word(write.line, if write.was_dead { 2 } else { 1 });
+    page.page.write(format_args!(
+        "`{name}` still named it after line {line}: give it another value there, or null"
+    ));
+    if !write.was_dead && run.end.pointer.is_some_and(|it| !frees(run, it)) {
+        page.page.write(format_args!(", or let line {line} come after the last use of `{name}`"));
     }
 }

@@ -1,15 +1,15 @@
-//! What is said of the table of lengths: which line makes each attempt that a shorter heap refuses first.
+//! What is said about the table of lengths: which line makes each attempt that a shorter heap refuses first.
 
 use crate::runs::script_page::ScriptPage;
 use wb_heap_model::size::Rise;
 use wb_history::Attempts;
 
-/// How many rows of a table are shown at its beginning and at its end, if it is too long to be shown whole.
+/// How many rows are shown at a table's beginning and at its end, if the table is too long to be shown whole.
 const FIRST_ROWS: usize = 10;
 
 const LAST_ROWS: usize = 5;
 
-/// Says of each row of the table which line makes its attempt, by the attempts of the run without a limit.
+/// Says for each row of the table which line makes the row's attempt. `attempts` are the attempts of the run without a limit.
 pub fn put_lengths(page: &mut ScriptPage<'_>, attempts: &Attempts<'_>, rises: &[Rise]) {
     page.page.write_file_text("what shorter heaps refuse first");
     let mut from = 0;

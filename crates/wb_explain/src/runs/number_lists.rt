@@ -20,7 +20,7 @@ pub fn put_list(page: &mut ScriptPage<'_>, numbers: &[u32], count: usize) {
     }
 }
 
-/// What stands before a number of a list.
+/// The text before a number in a list.
 pub fn joint(index: usize, is_last: bool) -> &'static str {
     match (index, is_last) {
         (0, _) => "",

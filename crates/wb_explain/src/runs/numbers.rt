@@ -1,5 +1,5 @@
-//! What is said of all that a sweep finds: at which lines a failed attempt leads to a leak or a panic. Numbers whose first failed attempt
-//! is on the same line, and whose runs end alike, are told of once.
+//! What is said about all that a sweep finds: at which lines a failed attempt leads to a leak or a panic. If the first failed attempts of
+//! several numbers are on the same line, and their runs end alike, these numbers are listed together.
 
 use crate::runs::end_words::EndInWords;
 use crate::runs::number_lists::{MOST_NUMBERS, put_list};
@@ -10,16 +10,16 @@ use wb_runs::failures::Failures;
 use wb_runs::number_ends::NumberEnd;
 use wb_runs::run_end::RunEnd;
 
-/// The most groups that are told.
+/// The most groups that are listed.
 const MOST_GROUPS: usize = 20;
 
 /// Numbers whose runs end alike, and whose first failed attempt is on the same line.
 #[derive(Clone, Copy, Debug, PartialEq, Eq)]
 struct Group {
-    /// The line of that attempt; 0 if none fails.
+    /// The line of the first failed attempt; 0 if no attempt fails.
     line: u32,
     end: RunEnd,
-    /// The first numbers, and how many there are in all.
+    /// The first numbers of the group, and how many numbers the group has in all.
     numbers: [u32; MOST_NUMBERS],
     count: usize,
 }
@@ -42,7 +42,7 @@ impl Group {
     }
 }
 
-/// The groups that are told, and how many numbers are in none of them.
+/// The groups that are listed, and how many numbers are in no group.
 #[derive(Drop)]
 struct Groups {
     told: Vec<Group>,
@@ -77,8 +77,8 @@ pub fn last_bad(ends: &[NumberEnd]) -> u32 {
     last
 }
 
-/// Says at which lines a failed attempt leads to a leak or a panic, group by group. `attempts` are those of the run without
-/// failure.
+/// Says at which lines a failed attempt leads to a leak or a panic, group by group. `attempts` are the attempts of the run
+/// without failure.
 pub fn put_numbers(
     page: &mut ScriptPage<'_>,
     alloc: Global,
@@ -101,7 +101,7 @@ pub fn put_numbers(
     Ok(())
 }
 
-/// The groups of the numbers whose runs leak or panic, in order of the least number of each.
+/// The groups of the numbers whose runs leak or panic, in order of each group's least number.
 fn groups_of(
     alloc: Global,
     attempts: &Attempts<'_>,
@@ -119,8 +119,8 @@ fn groups_of(
     Ok(groups)
 }
 
-/// The line of the attempt that fails first under a number or a rate: up to that attempt, the run is the same as the one without failure. 0
-/// if no attempt fails.
+/// The line of the attempt that fails first under a number or a rate; 0 if no attempt fails. Up to this attempt, the run is the same as the
+/// run without failure.
 fn line_of(attempts: &Attempts<'_>, number: u32) -> u32 {
     match attempts.find(number) {
         Some(made) => made.maker.line,
@@ -151,7 +151,7 @@ fn put_group(page: &mut ScriptPage<'_>, failures: Failures, group: &Group) {
     page.page.end_line();
 }
 
-/// Writes the numbers of a group, the first of them one by one, as `attempts 3, 7 and 11`.
+/// Writes the numbers of a group, for example `attempts 3, 7 and 11`; only the first numbers are written one by one.
 fn put_group_numbers(page: &mut ScriptPage<'_>, failures: Failures, group: &Group) {
     let word = match failures {
         Failures::Single | Failures::Pairs => "attempt",

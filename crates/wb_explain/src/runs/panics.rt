@@ -1,13 +1,13 @@
-//! What panics mean, in Symbian's words, and what to look for, by the statement that raised them.
+//! What panics mean, in Symbian's words, and what to look for. Both depend on the statement that raised the panic.
 
 use wb_heap_model::heap::Panic;
 use wb_history::Counted;
 use wb_tree::script::Statement;
 
-/// What was wrong, and what to look for; empty where there is no more to say.
+/// What was wrong, and what to look for. Each of the two is empty if there is nothing to say.
 pub type Meaning = (&'static str, &'static str);
 
-/// What a panic means that no heap check raised, and what to look for, by the statement that raised it.
+/// What a panic means, and what to look for, given the statement that raised the panic. Panics of heap checks are not covered here.
 pub fn meaning_of(panic: Panic, statement: &Statement) -> Meaning {
     match panic {
         Panic::POSITION_OUT_OF_BOUNDS => out_of_bounds(statement),
@@ -39,11 +39,11 @@ pub fn meaning_of(panic: Panic, statement: &Statement) -> Meaning {
     }
 }
 
-/// What to look for where a pointer is null.
+/// What to look for if a pointer is null.
 pub const CHECK_FIRST: &str =
     "check with `if some` first; lines that leave, such as `allocl`, never give null";
 
-/// What to look for where a destructor finds a null pointer.
+/// What to look for if a destructor finds a null pointer.
 pub const CHECK_IN_DESTRUCTOR: &str =
     "check with `if some` first: a destructor also runs on an object of which only a part was made";
 
@@ -52,8 +52,8 @@ pub fn panic_in_symbian(panic: Panic) -> &'static str {
     symbian_of(panic, None)
 }
 
-/// Where Symbian raises a panic of this category and number, or which panic a developer would meet there instead; empty for a panic that
-/// only this project has. `counted` are the cells that a failed check counted.
+/// Where Symbian raises a panic of this category and number, or which panic a Symbian developer would meet instead; empty for a panic
+/// that only this project has. `counted` are the cells that a failed check counted.
 pub fn symbian_of(panic: Panic, counted: Option<&Counted>) -> &'static str {
     match panic {
         Panic::POSITION_OUT_OF_BOUNDS => {

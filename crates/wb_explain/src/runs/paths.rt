@@ -1,4 +1,4 @@
-//! The call path of a line, and the TRAPs that were open there.
+//! The call path of a line, and the TRAPs that were open at this line.
 
 use crate::runs::number_lists::joint;
 use crate::runs::script_page::ScriptPage;
@@ -9,7 +9,7 @@ use wb_history::{Bodies, BodyKind, OpenTrap, WatchedRun};
 /// How many calls of a long path are shown at its beginning, and at its end.
 const CALLS_SHOWN: usize = 4;
 
-/// Says by which calls a run came to a line, if there were any; `lines` go from `main` down. The middle of a long path is left out.
+/// Says by which calls a run came to a line, if there were calls. `lines` go from `main` down. The middle of a long path is left out.
 pub fn put_path(page: &mut ScriptPage<'_>, bodies: &Bodies, lines: &[u32]) {
     if lines.len() < 2 {
         return;
@@ -48,7 +48,7 @@ pub fn body_name<'a>(page: &ScriptPage<'a>, line: u32, run: &WatchedRun<'_>) -> 
     }
 }
 
-/// What is said before the name of a body.
+/// The text before the name of a body.
 pub fn before_name(kind: BodyKind) -> &'static str {
     match kind {
         BodyKind::Construct => "the second phase of `",
@@ -57,7 +57,7 @@ pub fn before_name(kind: BodyKind) -> &'static str {
     }
 }
 
-/// After which line a body ended; nothing if that isn't known.
+/// After which line a body ended; no text if this line isn't known.
 #[derive(Clone, Copy)]
 pub struct AfterLine(pub u32);
 
@@ -70,7 +70,7 @@ impl Display for AfterLine {
     }
 }
 
-/// Says which TRAPs are open, if any are.
+/// Says which TRAPs are open, if there are open TRAPs.
 pub fn put_traps(page: &mut ScriptPage<'_>, open: &[OpenTrap]) {
     let count = open.len();
     if count == 0 {

@@ -1,4 +1,4 @@
-//! What is said of the pointer that a panic is about: that it is null, or what became of its cell, and what to do.
+//! What is said about the pointer that a panic is about: that the pointer is null, or what became of its cell, and what to do.
 
 use crate::runs::destroyed::of_item_without_cell;
 use crate::runs::kept::name_of;
@@ -44,7 +44,7 @@ fn put_ended(page: &mut ScriptPage<'_>, line: u32, fault: PointerFault, ended: E
     put_ender(page, line, ended);
 }
 
-/// Says which line ended a cell's life: the one that panicked, or another.
+/// Says which line ended a cell's life: the line that panicked, or another line.
 fn put_ender(page: &mut ScriptPage<'_>, line: u32, ended: Ended) {
     let at = ended.at.number();
     match (ended.end, at == line) {
@@ -96,7 +96,7 @@ fn cure_of_view(life: Option<Life>) -> &'static str {
     }
 }
 
-/// What to do about a pointer that is null outside of destructors.
+/// What to do about a null pointer, outside of destructors and operations.
 fn cure_outside(run: &WatchedRun<'_>, line: u32, fault: PointerFault) -> &'static str {
     match failed_for(run, line, fault) {
         Some(made) => cure_of_null(made),
@@ -104,7 +104,7 @@ fn cure_outside(run: &WatchedRun<'_>, line: u32, fault: PointerFault) -> &'stati
     }
 }
 
-/// Returns whether a pointer may be null because lines were left that would have made its cell.
+/// Returns whether a pointer may be null because a leave skipped the lines that would have made the pointer's cell.
 pub fn is_left_null(run: &WatchedRun<'_>, line: u32, fault: PointerFault) -> bool {
     if fault.state != PointerState::Null || run.history.bodies.undoes(line) {
         return false;
@@ -115,8 +115,8 @@ pub fn is_left_null(run: &WatchedRun<'_>, line: u32, fault: PointerFault) -> boo
     }
 }
 
-/// Returns whether a body that undoes uses a cell, and doesn't free it, that the cleanup stack destroyed for the same line, or another
-/// operation.
+/// Returns whether an operation or a destructor uses, and doesn't free, a cell that is gone. Either the cleanup stack destroyed the cell
+/// for the same line, or another operation freed the cell.
 pub fn is_out_of_order(run: &WatchedRun<'_>, line: u32, fault: PointerFault, ended: Ended) -> bool {
     let (user, freer) = (
         run.history.bodies.body_of(line),
@@ -131,7 +131,7 @@ pub fn is_out_of_order(run: &WatchedRun<'_>, line: u32, fault: PointerFault, end
         && !frees(run, fault)
 }
 
-/// Whether a line is in an operation, and the item destroyed last is that of this cell.
+/// Whether a line is in an operation, and the item that was destroyed last is an item of this cell.
 fn is_in_item(run: &WatchedRun<'_>, line: u32, life: Option<Life>) -> bool {
     match (life, run.history.last_item) {
         (Some(life), Some(item)) => {
@@ -142,7 +142,7 @@ fn is_in_item(run: &WatchedRun<'_>, line: u32, life: Option<Life>) -> bool {
     }
 }
 
-/// Returns the last attempt that was to give this pointer a cell, in the same body or as the same field of a class, if that attempt failed.
+/// Returns the last attempt that was to give a cell to this pointer (in this body, or as the same field), if this attempt failed.
 pub fn failed_for<'a>(
     run: &WatchedRun<'a>,
     line: u32,
@@ -164,8 +164,8 @@ pub fn failed_for<'a>(
     last
 }
 
-/// Returns what to do about a cell whose pointer became null when an attempt to reallocate failed at a line; `None` if no such attempt
-/// failed there.
+/// Returns what to do about a cell whose pointer became null when an attempt to reallocate failed at a line; `None` if no attempt to
+/// reallocate failed at this line.
 pub fn cure_of_failed(run: &WatchedRun<'_>, line: u32) -> Option<&'static str> {
     for made in run.history.attempts.kept_attempts() {
         if made.maker.line == line
@@ -202,8 +202,8 @@ fn cure_of_null(made: AttemptMade<'_>) -> &'static str {
     }
 }
 
-/// How the life of the object ended whose field got the cell last, if the cleanup stack destroyed that object for a leave; `None` if it
-/// didn't.
+/// How the life of an object ended, if a field of the object was the last pointer that was set to the cell, and the cleanup stack destroyed
+/// the object because of a leave; `None` otherwise.
 fn left_owner(run: &WatchedRun<'_>, fault: PointerFault) -> Option<Ended> {
     match fault.state {
         PointerState::Gone(Some(life)) => owner_left(run, life),
@@ -211,7 +211,7 @@ fn left_owner(run: &WatchedRun<'_>, fault: PointerFault) -> Option<Ended> {
     }
 }
 
-/// Whether the field of an object that lives got the cell of the pointer last.
+/// Whether a field of a live object was the last pointer that was set to the cell.
 fn is_field_of_live(run: &WatchedRun<'_>, fault: PointerFault) -> bool {
     let PointerState::Gone(Some(life)) = fault.state else {
         return false;
@@ -226,8 +226,8 @@ fn is_field_of_live(run: &WatchedRun<'_>, fault: PointerFault) -> bool {
     }
 }
 
-/// Returns how the life of the object ended whose field got a cell last, if the cleanup stack destroyed that object for a leave; `None` if it
-/// didn't.
+/// Returns how the life of an object ended, if a field of the object was the last pointer that was set to a cell, and the cleanup stack
+/// destroyed the object because of a leave; `None` otherwise.
 pub fn owner_left(run: &WatchedRun<'_>, life: Life) -> Option<Ended> {
     let held = life.held?;
     let ended = run.history.lives.find(held.owner)?.ended?;
@@ -238,8 +238,8 @@ pub fn owner_left(run: &WatchedRun<'_>, life: Life) -> Option<Ended> {
     }
 }
 
-/// Whether the line that panicked was to free or delete what the pointer names, and not only to use it.
-fn frees(run: &WatchedRun<'_>, fault: PointerFault) -> bool {
+/// Returns whether the line that panicked was to free or delete what the pointer at fault names, and not only to use it.
+pub fn frees(run: &WatchedRun<'_>, fault: PointerFault) -> bool {
     let is_freed = matches!(
         run.end.statement,
         Some(Statement::Free(_) | Statement::Delete(_))
@@ -247,7 +247,7 @@ fn frees(run: &WatchedRun<'_>, fault: PointerFault) -> bool {
     is_freed && !fault.is_owner
 }
 
-/// What to do about a pointer whose cell is gone, by how the cell's life ended.
+/// What to do about a pointer whose cell is gone. This depends on how the cell's life ended.
 fn cure_of_ended(
     page: &ScriptPage<'_>,
     run: &WatchedRun<'_>,

@@ -1,9 +1,9 @@
-//! What is said of a rate at which attempts fail, and of an attempt that fails together with all later ones.
+//! What is said about a rate at which attempts fail, and about an attempt that fails together with all later attempts.
 
 use crate::runs::script_page::ScriptPage;
 use wb_history::{Attempts, FailedCounts};
 
-/// Says how many attempts failed, and which one first, if each attempt was to fail whose number is a multiple of the rate.
+/// Says how many attempts failed, and which attempt failed first, if each attempt whose number is a multiple of the rate was to fail.
 pub fn put_rate(page: &mut ScriptPage<'_>, rate: u32, attempts: &Attempts<'_>) {
     if rate == 1 {
         page.page
@@ -26,7 +26,7 @@ pub fn put_rate(page: &mut ScriptPage<'_>, rate: u32, attempts: &Attempts<'_>) {
     page.page.end_line();
 }
 
-/// Says how many attempts failed, if attempt `first` and each later one were to fail.
+/// Says how many attempts failed, if attempt `first` and each later attempt were to fail.
 pub fn put_first(page: &mut ScriptPage<'_>, first: u32, attempts: &Attempts<'_>) {
     let made = attempts.count();
     let FailedCounts { by_rule, by_script } = attempts.failed_counts();
@@ -44,7 +44,7 @@ pub fn put_first(page: &mut ScriptPage<'_>, first: u32, attempts: &Attempts<'_>)
     page.page.end_line();
 }
 
-/// Says how many more attempts failed by the script's own setting, if any did.
+/// Says how many more attempts failed only by the script's own setting, if there are such attempts.
 fn put_by_script(page: &mut ScriptPage<'_>, by_script: u32) {
     if by_script != 0 {
         page.page.write(format_args!(

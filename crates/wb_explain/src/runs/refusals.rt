@@ -1,4 +1,4 @@
-//! Which attempt a heap of some length refuses first: in the run in the longest heap, the first attempt that ends past that length.
+//! Which attempt a heap of some length refuses first. In the longest heap's run, it is the first attempt whose cell ends past this length.
 
 use wb_basics::limits::CEILING;
 use wb_history::AttemptMade;
@@ -10,21 +10,21 @@ pub struct Refused {
     pub line: u32,
 }
 
-/// The attempts of the run in the longest heap, and how many of them have been gone through.
+/// The attempts of the run in the longest heap, and how many of these attempts have been passed.
 #[derive(Clone, Copy)]
 pub struct Refusals<'a> {
     attempts: &'a [AttemptMade<'a>],
-    /// How many of the attempts have been gone through.
+    /// How many of the attempts have been passed.
     passed: usize,
-    /// The attempt that `go_past` came to last: heaps refuse it first that are shorter than `until` and in which all attempts before it
-    /// fit. `None` if there is no such attempt.
+    /// The attempt that `go_past` found last. Heaps that are shorter than `until`, and long enough for all earlier attempts, refuse this
+    /// attempt first. `None` if there is no such attempt.
     pub first: Option<Refused>,
-    /// Where that attempt ends, in bytes; past the ceiling if there is no such attempt.
+    /// Where the cell of `first` ends, in bytes; past the ceiling if `first` is `None`.
     pub until: u32,
 }
 
 impl<'a> Refusals<'a> {
-    /// No attempt has been gone through yet. `attempts` are those of the run in the longest heap.
+    /// No attempt has been passed yet. `attempts` are the attempts of the run in the longest heap.
     pub fn new(attempts: &'a [AttemptMade<'a>]) -> Refusals<'a> {
         Refusals {
             attempts,
@@ -35,7 +35,7 @@ impl<'a> Refusals<'a> {
     }
 
     /// Goes on to the attempt that a heap of this length, in bytes, refuses first: the next rise that ends past the length. Does nothing if
-    /// `first` is that attempt already. Lengths must come in ascending order.
+    /// `first` is already this attempt. The lengths must come in ascending order.
     pub fn go_past(&mut self, length: u32) {
         if self.until > length {
             return;

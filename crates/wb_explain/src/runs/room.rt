@@ -1,12 +1,13 @@
-//! What is said of a text that would be longer than its maximum, and of a word past a cell's end: where there was to be room, and what to do.
+//! What is said about a text that would be longer than its maximum, and about a word past a cell's end: where the room was set, and what
+//! to do.
 
 use crate::runs::script_page::{ScriptPage, Written};
-use wb_history::{Values, WatchedRun};
+use wb_history::{Maker, Values, WatchedRun};
 use wb_tree::script::Statement;
 
-/// Tells where a text in a cell got its room; nothing of a buffer.
-pub fn put_room(page: &mut ScriptPage<'_>, maximum: u32, run: &WatchedRun<'_>) -> Written {
-    let Some(life) = run.history.lives.find(run.end.names) else {
+/// Says where a text got its room, or a cell its length, if a panic is about the room or the length. Writes nothing about a buffer's text.
+pub fn put_room(page: &mut ScriptPage<'_>, run: &WatchedRun<'_>) -> Written {
+    let (Some(meant), Some(life)) = (run.end.values, run.history.lives.find(run.end.names)) else {
         return Ok(());
     };
     let at = if life.grown.is_some() {
@@ -14,38 +15,67 @@ pub fn put_room(page: &mut ScriptPage<'_>, maximum: u32, run: &WatchedRun<'_>) -
     } else {
         life.made
     };
-    page.mark_new(
-        at.number(),
-        1,
-        format_args!("the text got its room here: {maximum} units, as many as its cell holds"),
-    )
+    match meant.values {
+        Values::WouldHave { maximum, .. } => page.mark_new(
+            at.number(),
+            1,
+            format_args!("the text got its room here: {maximum} units, as many as its cell holds"),
+        ),
+        Values::NoWord { bytes, .. } => page.mark_new(
+            at.number(),
+            1,
+            format_args!("the cell got its {bytes} bytes here"),
+        ),
+        _ => Ok(()),
+    }
 }
 
-/// The statement of the last attempt that failed; `None` if none failed.
-fn last_failed<'a>(run: &WatchedRun<'a>) -> Option<&'a Statement> {
+/// The maker of the last failed attempt; `None` if no attempt failed.
+fn last_failed<'a>(run: &WatchedRun<'a>) -> Option<Maker<'a>> {
     let mut failed = None;
     for made in run.history.attempts.kept_attempts() {
         if !made.is_granted() {
-            failed = made.maker.statement;
+            failed = Some(made.maker);
         }
     }
     failed
 }
 
-/// Returns what to do about a word that a cell doesn't have, if an attempt to reallocate a cell was the last that failed; `None` if it
-/// wasn't.
-pub fn cure_of_words(run: &WatchedRun<'_>) -> Option<&'static str> {
-    match (run.end.values?.values, last_failed(run)?) {
-        (Values::NoWord { .. }, Statement::Realloc(..)) => Some(
+/// Returns what to do about a word past the end of a cell. `None` unless the last failed attempt was to reallocate a cell, or to make a
+/// cell that this cell then replaced.
+pub fn cure_of_words(page: &ScriptPage<'_>, run: &WatchedRun<'_>) -> Option<&'static str> {
+    let Values::NoWord { .. } = run.end.values?.values else {
+        return None;
+    };
+    let failed = last_failed(run)?;
+    match failed.statement? {
+        Statement::Realloc(..) => Some(
             "the line that was to make a cell longer failed, and the cell kept its length: change a count of its words only after that line, and only where it was granted",
+        ),
+        Statement::Alloc(..) if is_in_place_of(page, failed.line, run) => Some(
+            "this cell was made in place of another one whose attempt failed, and is shorter: where it is made, set the count of its words, too",
         ),
         _ => None,
     }
 }
 
-/// Returns how to give a text more room: if an attempt to do so was the last that failed, what to do about that.
+/// Whether the cell that a panic is about was made by another line than `failed`, in the same body and for a pointer of the same name.
+fn is_in_place_of(page: &ScriptPage<'_>, failed: u32, run: &WatchedRun<'_>) -> bool {
+    let bodies = &run.history.bodies;
+    match run.history.lives.find(run.end.names) {
+        Some(life) => {
+            let made = life.made.number();
+            made != failed
+                && page.word(made, 1) == page.word(failed, 1)
+                && bodies.body_of(made) == bodies.body_of(failed)
+        }
+        None => false,
+    }
+}
+
+/// Returns how to give a text more room. If the last failed attempt was to reallocate a text, returns what to do about that failure.
 pub fn cure_of_room(run: &WatchedRun<'_>) -> &'static str {
-    match last_failed(run) {
+    match last_failed(run).and_then(|it| it.statement) {
         _ if run.end.names.number == 0 => {
             "the maximum of a buffer is in its declaration, and `getmax` gives it"
         }

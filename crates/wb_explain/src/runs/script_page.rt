@@ -1,4 +1,4 @@
-//! A page about a script: messages about its lines, which are shown with carets under the word that is meant.
+//! A page about a script: messages about its lines, which are shown with carets under the word that the message is about.
 
 use crate::runs::explanation::{Explanation, Finding, FindingKind, Parts, Told};
 use std::alloc::{AllocError, Global};
@@ -16,7 +16,7 @@ pub struct ScriptPage<'a> {
     alloc: Global,
     pub lines: &'a ScriptLines<'a>,
     pub page: Page<'a>,
-    /// The lines that were shown for what led to the last finding, so that none is shown twice.
+    /// The lines that were shown as leading to the last finding, so that no line is shown twice.
     told: Vec<u32>,
     findings: Vec<Finding>,
     /// Whether what is written next belongs to the last finding.
@@ -45,7 +45,7 @@ impl<'a> ScriptPage<'a> {
         Ok(Explanation::of(text, parts, findings))
     }
 
-    /// Begins a finding: its own message comes next, and then how it came about, told in this order.
+    /// Begins a finding. The finding's own message comes next, and then how the finding came about, in the order `told`.
     pub fn begin_finding(&mut self, kind: FindingKind, told: Told) -> Written {
         self.end_finding();
         let own = self.page.part_count();
@@ -69,7 +69,7 @@ impl<'a> ScriptPage<'a> {
         Ok(())
     }
 
-    /// Ends the last finding: what is written next doesn't belong to it.
+    /// Ends the last finding: what is written next doesn't belong to this finding.
     pub fn end_finding(&mut self) {
         let end = self.page.part_count();
         if self.is_in_finding
@@ -80,7 +80,7 @@ impl<'a> ScriptPage<'a> {
         self.is_in_finding = false;
     }
 
-    /// Says that what is said of the last finding is in no order of time.
+    /// Notes that what is written about the last finding is in no order of time.
     pub fn tell_unordered(&mut self) {
         if self.is_in_finding
             && let Some(last) = self.findings.last_mut()
@@ -89,7 +89,7 @@ impl<'a> ScriptPage<'a> {
         }
     }
 
-    /// Ends the last finding. A leak below whose message nothing is said came about as another did whose cell the same line made.
+    /// Ends the last finding. A leak with nothing written below its message shares what is written below another leak of the same line.
     pub fn share_ways(&mut self) {
         self.end_finding();
         for index in 0..self.findings.len() {
@@ -102,7 +102,7 @@ impl<'a> ScriptPage<'a> {
         }
     }
 
-    /// What is said of another leak at the line of this one, if this is a leak of which nothing is said; `None` if there is no such leak.
+    /// What is written below another leak of the same line, if nothing is written below this leak; `None` if there is no such leak.
     fn way_at_line_of(&self, index: usize) -> Option<Parts> {
         let finding = self.findings.get(index)?;
         if finding.kind != FindingKind::Leak || !finding.way.is_empty() {
@@ -120,7 +120,7 @@ impl<'a> ScriptPage<'a> {
         None
     }
 
-    /// Returns a line without the blanks around it, by its number from 1; empty if there is none.
+    /// Returns a line without the blanks around it, by its number from 1; empty if there is no such line.
     pub fn line(&self, number: u32) -> Shown<'a> {
         Shown::line(self.text_of(number))
     }
@@ -141,7 +141,7 @@ impl<'a> ScriptPage<'a> {
         Ok(Spot::of_word(number as usize, line, words.as_slice(), index))
     }
 
-    /// Writes a message about a line, and shows it with carets under the word with an index.
+    /// Writes a message about a line, and shows the line with carets under the word with this index.
     pub fn mark_word<D: Display + Drop>(
         &mut self,
         number: u32,
@@ -153,7 +153,7 @@ impl<'a> ScriptPage<'a> {
         Ok(())
     }
 
-    /// Writes a message about a line, and shows it with carets under its first word.
+    /// Writes a message about a line, and shows the line with carets under its first word.
     pub fn mark<D: Display + Drop>(&mut self, number: u32, message: D) -> Written {
         self.mark_word(number, 0, message)
     }
@@ -165,7 +165,7 @@ impl<'a> ScriptPage<'a> {
         Ok(())
     }
 
-    /// Does what `mark_word` does, unless the line was shown before for the same finding. 0 is no line.
+    /// Does what `mark_word` does, unless the line was shown before for the same finding. Does nothing if `number` is 0, which is no line.
     pub fn mark_new<D: Display + Drop>(
         &mut self,
         number: u32,

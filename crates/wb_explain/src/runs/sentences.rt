@@ -1,11 +1,11 @@
-//! What is said of the values with which a line panicked.
+//! What is said about the values with which a line panicked.
 
 use crate::runs::counts::{Many, of_one_or_more};
 use std::fmt::Display;
 use wb_history::Values;
 use wb_pages::Page;
 
-/// Writes what is said of the values with which a line panicked. How many items were to be popped is said elsewhere.
+/// Writes about the values with which a line panicked. Writes nothing about how many items were to be popped: other code says this.
 pub fn put_values(page: &mut Page<'_>, values: Values) {
     match values {
         Values::WouldHave { units, maximum } => {
@@ -44,7 +44,7 @@ pub fn put_values(page: &mut Page<'_>, values: Values) {
     }
 }
 
-/// Says how many units of a text, from some position, were requested, and how many it has.
+/// Says how many units of a text, from some position, were requested, and how many units the text has.
 fn put_requested<D: Display + Drop>(page: &mut Page<'_>, wanted: i32, place: D, length: u32) {
     let count = i64::from(wanted);
     let (units, are) = (Many(count, "unit"), of_one_or_more(count, "is", "are"));

@@ -1,4 +1,4 @@
-//! What is said of one or more attempts that the rule names one by one and makes fail.
+//! What is said about attempts that the rule names one by one and makes fail.
 
 use crate::runs::caught::put_caught;
 use crate::runs::failures::{Next, next_after, put_failed, put_failed_here, put_next};
@@ -10,8 +10,8 @@ use wb_tree::script::Statement;
 /// The most failed attempts that are shown with their lines.
 const MOST_SHOWN: usize = 8;
 
-/// Says which lines made the attempts with these numbers, which are in ascending order and were to fail, and where the run went on after
-/// each. Says also which of the attempts the run never made.
+/// Says which lines made the attempts with these numbers, and where the run went on after each attempt. Also says which of the attempts
+/// the run never made. The numbers are in ascending order, and these attempts were to fail.
 pub fn put_set(page: &mut ScriptPage<'_>, numbers: &[u32], run: &WatchedRun<'_>) -> Written {
     let count = made_among(numbers, run).min(numbers.len());
     let made = &numbers[..count];
@@ -22,7 +22,7 @@ pub fn put_set(page: &mut ScriptPage<'_>, numbers: &[u32], run: &WatchedRun<'_>)
     Ok(())
 }
 
-/// How many of these numbers, which are in ascending order, are those of attempts that the run made.
+/// How many of the attempts with these numbers, which are in ascending order, the run made.
 fn made_among(numbers: &[u32], run: &WatchedRun<'_>) -> usize {
     let last = run.history.attempts.count();
     let mut count: usize = 0;
@@ -34,7 +34,7 @@ fn made_among(numbers: &[u32], run: &WatchedRun<'_>) -> usize {
     count
 }
 
-/// Says which lines made the attempts that failed because of the run's rule, and where the run went on after each.
+/// Says which lines made the attempts that failed because of the run's rule, and where the run went on after each attempt.
 pub fn put_by_rule(page: &mut ScriptPage<'_>, run: &WatchedRun<'_>) -> Written {
     let attempts = &run.history.attempts;
     let mut numbers = [0; MOST_SHOWN];
@@ -81,8 +81,8 @@ fn put_made(
     Ok(())
 }
 
-/// Shows a failed attempt, the TRAP that caught the next leave, if one did before `later`, the next attempt that failed, and where the run
-/// went on. If the attempt was for the cell of the cleanup stack, the run makes no other.
+/// Shows a failed attempt, and where the run went on. If a TRAP caught a leave before `later`, the next failed attempt, also shows this
+/// TRAP. If the attempt was for the cell of the cleanup stack, the run makes no other attempt.
 fn put_one(
     page: &mut ScriptPage<'_>,
     made: AttemptMade<'_>,
@@ -111,7 +111,7 @@ fn put_one(
     }
 }
 
-/// What is said of a failed attempt besides: that it isn't the first, or that the item of a `push` has its place all the same.
+/// What else is said about a failed attempt: that it isn't the first, or that the item of a `push` was already on the cleanup stack.
 fn also_of(made: AttemptMade<'_>, is_later: bool) -> &'static str {
     match made.maker.statement {
         Some(Statement::Push(_) | Statement::PushObject(_) | Statement::PushOperation(..)) => {
@@ -122,7 +122,7 @@ fn also_of(made: AttemptMade<'_>, is_later: bool) -> &'static str {
     }
 }
 
-/// Shows where the run went on after a failed attempt, unless that is said for `later`, the next attempt that failed.
+/// Shows where the run went on after a failed attempt, unless the same line is named for `later`, the next failed attempt.
 fn put_next_before(
     page: &mut ScriptPage<'_>,
     made: AttemptMade<'_>,
@@ -142,8 +142,8 @@ fn put_next_before(
     }
 }
 
-/// Whether the run went on after a failure with a line that isn't named later: neither as the line of the next attempt that failed, nor as
-/// the line with which the run went on after that attempt.
+/// Whether the run went on after a failure with a line that isn't shown later. The lines shown later are the line of the next failed
+/// attempt, and the line with which the run went on after this attempt.
 fn names_new_line(next: Next, later_line: u32, later_next: Next) -> bool {
     match next.line() {
         Some(line) => line != later_line && later_next.line() != Some(line),
@@ -151,7 +151,7 @@ fn names_new_line(next: Next, later_line: u32, later_next: Next) -> bool {
     }
 }
 
-/// Says that the run never made the attempts with these numbers. `others_made` says whether it made others of the set.
+/// Says that the run never made the attempts with these numbers. `others_made` says whether the run made other attempts of the set.
 fn put_not_made(
     page: &mut ScriptPage<'_>,
     numbers: &[u32],
@@ -171,7 +171,7 @@ fn put_not_made(
     page.page.end_line();
 }
 
-/// What follows if `count` attempts of the set were never made.
+/// What is concluded if `count` attempts of the set were never made.
 fn no_failure_of(count: usize, others_made: bool) -> &'static str {
     match (count, others_made) {
         (1, true) => "it could not fail as well",

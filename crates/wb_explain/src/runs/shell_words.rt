@@ -1,11 +1,11 @@
-//! Commands as they are typed: the options that say how runs are made, without those that have their defaults, and the name of a script.
+//! Commands as they are typed: the options that say how runs are made, except options with their default values, and a script's name.
 
 use std::fmt;
 use std::fmt::{Display, Formatter, Write};
 use wb_basics::limits::{DEFAULT_BUDGET, DEFAULT_MINIMUM, DEFAULT_STEP};
 use wb_heap_model::heap::{Rule, Shape};
 
-/// The options that say how runs are made, each with a blank before it. An option that has its default is left out.
+/// The options that say how runs are made, each with a blank before it. An option with its default value is left out.
 #[derive(Clone, Copy)]
 pub struct ShellOptions {
     pub budget: u32,
@@ -62,7 +62,7 @@ fn write_list<W: Write>(f: &mut Formatter<W>, numbers: &[u32]) -> fmt::Result {
     Ok(())
 }
 
-/// The name of a script, with a blank before it; in quotes if a shell would read the bare name otherwise. No text for standard input.
+/// The name of a script, with a blank before it. The name is in quotes if a shell would change the bare name. No text for standard input.
 #[derive(Clone, Copy)]
 pub struct ShellFile<'a>(pub Option<&'a str>);
 
@@ -76,7 +76,7 @@ impl<'a> Display for ShellFile<'a> {
     }
 }
 
-/// Whether a shell reads a word as it is written.
+/// Whether a shell takes a word exactly as it is written.
 fn is_plain(word: &str) -> bool {
     !word.is_empty() && word.as_bytes().iter().all(|byte| is_plain_byte(*byte))
 }

@@ -1,11 +1,11 @@
-//! Lengths of heaps of which the same is said: the least, the greatest, and how many there are.
+//! Lengths of heaps about which the same thing is said: the least length, the greatest length, and the number of lengths.
 
 use std::fmt;
 use std::fmt::{Display, Formatter, Write};
 use wb_basics::limits::CEILING;
 use wb_runs::lengths::LengthRange;
 
-/// Lengths, in bytes, of which there is at least one.
+/// A set of lengths, in bytes, with at least one length.
 #[derive(Clone, Copy, Debug, PartialEq, Eq)]
 pub struct Spread {
     pub least: u32,
@@ -23,7 +23,7 @@ impl Spread {
         }
     }
 
-    /// These lengths together with further ones, which are all greater.
+    /// These lengths together with further lengths, which are all greater.
     pub fn with(self, longer: Spread) -> Spread {
         Spread {
             least: self.least,
@@ -32,13 +32,13 @@ impl Spread {
         }
     }
 
-    /// Whether all lengths between the least and the greatest are among them.
+    /// Whether the set has all lengths between its least and its greatest length.
     pub fn is_whole(self) -> bool {
         self.count == Spread::of(self.least, self.greatest.saturating_add(1)).count
     }
 }
 
-/// The least and the greatest length, and how many lengths there are if some between these two are missing.
+/// The least and the greatest length, and how many lengths there are, if some lengths between these two are missing.
 impl Display for Spread {
     fn fmt<W: Write>(&self, f: &mut Formatter<W>) -> fmt::Result {
         let Spread {

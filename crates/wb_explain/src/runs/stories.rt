@@ -1,5 +1,5 @@
-//! What is shown by heaps in which runs leak or panic, as stories: which line's attempt is refused first, and how the run ends. All lengths
-//! with the same story are told of together.
+//! Stories of heaps in which runs leak or panic. A story says which line's attempt is refused first, and how the run ends. All lengths
+//! with the same story are listed together.
 
 use crate::runs::refusals::{Refusals, Refused};
 use crate::runs::script_page::Written;
@@ -8,7 +8,7 @@ use std::alloc::{AllocError, Global};
 use wb_runs::lengths::LengthRange;
 use wb_runs::run_end::RunEnd;
 
-/// The most stories that are told.
+/// The most stories that are listed.
 const MOST_STORIES: usize = 20;
 
 /// Lengths of heaps in which runs end alike, and in which an attempt of the same line is refused first.
@@ -16,9 +16,9 @@ const MOST_STORIES: usize = 20;
 pub struct Story {
     pub spread: Spread,
     pub end: RunEnd,
-    /// The attempt that the shortest of these heaps refuses first; `None` if they refuse nothing.
+    /// The attempt that the shortest of these heaps refuses first; `None` if this heap refuses nothing.
     pub refused: Option<Refused>,
-    /// Whether all of them refuse that attempt first.
+    /// Whether all of these heaps refuse this same attempt first.
     pub refuses_one: bool,
 }
 
@@ -28,7 +28,7 @@ impl Story {
         self.end == other.end && line_of(self.refused) == line_of(other.refused)
     }
 
-    /// Adds the lengths of another story that is told as this one.
+    /// Adds the lengths of another story that is the same as this story.
     fn take_in(&mut self, other: &Story) {
         self.spread = self.spread.with(other.spread);
         self.refuses_one = self.refuses_one && self.refused == other.refused;
@@ -39,16 +39,16 @@ fn line_of(refused: Option<Refused>) -> Option<u32> {
     refused.map(|it| it.line)
 }
 
-/// The stories of a table, in order of the least length of each.
+/// The stories of a table, in order of each story's least length.
 #[derive(Drop)]
 pub struct Stories {
     pub told: Vec<Story>,
-    /// How many ranges have a story that isn't told.
+    /// How many ranges have a story that isn't listed.
     pub more: usize,
 }
 
 impl Stories {
-    /// Adds a story, and returns whether it is told.
+    /// Adds a story, and returns whether this story is listed.
     fn add(&mut self, story: Story) -> Result<bool, AllocError> {
         for told in self.told.as_mut_slice() {
             if told.is_told_as(&story) {
@@ -64,7 +64,7 @@ impl Stories {
     }
 }
 
-/// The stories of a table of all lengths. No attempt of `refusals` may have been gone through yet.
+/// The stories of a table of all lengths. The caller passes `refusals` with no attempt passed yet.
 pub fn stories_of(
     alloc: Global,
     refusals: &mut Refusals<'_>,
@@ -84,7 +84,7 @@ pub fn stories_of(
     Ok(stories)
 }
 
-/// Adds the stories of a range, part by part: all heaps of one part refuse the same attempt first.
+/// Adds the stories of a range, part by part. All heaps of one part refuse the same attempt first.
 fn add_range(
     stories: &mut Stories,
     refusals: &mut Refusals<'_>,

@@ -1,4 +1,4 @@
-//! What is said of items that a body leaves to its caller, of those that it takes from it, and of those that are to be popped once more.
+//! What is said about items that a body leaves to its caller, items that a body takes from its caller, and items that are popped twice.
 
 use crate::runs::counts::Many;
 use crate::runs::paths::body_name;
@@ -7,15 +7,11 @@ use std::fmt;
 use std::fmt::{Display, Formatter, Write};
 use wb_history::{By, Ended, Life, Stay, Taken, WatchedRun};
 
-/// What to do about an item that a body leaves to its caller.
-pub const LEFT_TO_CALLER: &str =
-    "a body takes off what it pushed before each of its ends, a `return` too: the pops of its caller count on that";
-
 /// What to do about an item that a body takes from its caller.
 pub const TAKEN_FROM_CALLER: &str =
     "a body takes off only as many items as it pushed itself; `popcheck` makes sure that no other item comes off";
 
-/// Says which line took off an item of a calling body, and how many items its own body began with and left; nothing if no line did.
+/// Says which line took off an item of a calling body, and how many items the line's own body began with and left.
 pub fn put_of_caller(
     page: &mut ScriptPage<'_>,
     taken: Option<Taken>,
@@ -36,7 +32,7 @@ pub fn put_of_caller(
     )
 }
 
-/// Says how many items a body began with and left to its caller, and which line then took off one of them in place of another.
+/// Says how many items a body began with and left to its caller. Also says which line then took off one of the left items, if known.
 pub fn put_left(
     page: &mut ScriptPage<'_>,
     body: Stay,
@@ -55,11 +51,36 @@ pub fn put_left(
     )
 }
 
+/// Returns whether a body's name says that the body leaves an item to its caller: such a name ends in `lc` or `LC`.
+pub fn is_to_leave(page: &ScriptPage<'_>, body: Stay, run: &WatchedRun<'_>) -> bool {
+    let name = body_name(page, body.last, run);
+    name.ends_with("lc") || name.ends_with("LC")
+}
+
+/// Says what to do about an item that a body left to its caller.
+pub fn put_cure_of_left(page: &mut ScriptPage<'_>, body: Stay, run: &WatchedRun<'_>) {
+    let (name, line) = (body_name(page, body.last, run), body.last);
+    let left = body.ended.saturating_sub(body.began);
+    page.page.begin_help();
+    match page.word(line, 0) {
+        "return" => page.page.write(format_args!(
+            "before the `return` of line {line}, let `{name}` take off what it pushed"
+        )),
+        _ => page.page.write(format_args!(
+            "before `{name}` ends after line {line}, let it take off what it pushed"
+        )),
+    }
+    page.page.write(format_args!(
+        ", with `popdestroy {left}`, or with `pop {left}` where that has another owner: the pops of its caller count on that"
+    ));
+    page.page.end_line();
+}
+
 fn items(count: usize) -> Many {
     Many(i64::try_from(count).unwrap_or(i64::MAX), "item")
 }
 
-/// Which line took off an item that was left, if that is to be said.
+/// Which line took off an item that a body had left; no text for `None`.
 #[derive(Clone, Copy)]
 pub struct Then(pub Option<Taken>);
 
@@ -77,24 +98,23 @@ impl Display for Then {
     }
 }
 
-/// What to do about a body that was called, and that left no item where it leaves one on other ways.
+/// What to do about a called body that left no item, although it leaves an item on other ways through its code.
 pub const LEFT_NONE: &str =
     "the body that was called left no item on this way: let each of its ways leave one, or pop only where it left one";
 
-/// Returns the item that a line took off after a body had been called that left none, if that body had pushed one, or if its name says that it
-/// leaves one; `None` if there is no such item.
+/// Returns the item that a line took off after a called body had left no item. The called body must have pushed an item, or its name must
+/// end in `lc` or `LC`; `None` if there is no such item.
 pub fn after_callee(page: &ScriptPage<'_>, line: u32, run: &WatchedRun<'_>) -> Option<Taken> {
     let taken = run.history.items.after_callee?;
-    let name = body_name(page, taken.body.last, run);
-    let is_to_leave = name.ends_with("lc") || name.ends_with("LC");
-    if taken.line == line && (is_to_leave || taken.body.began < taken.body.most) {
+    let body = taken.body;
+    if taken.line == line && (body.began < body.most || is_to_leave(page, body, run)) {
         Some(taken)
     } else {
         None
     }
 }
 
-/// Returns the same for the `popdestroy` that ended a cell's life.
+/// Does what `after_callee` does, for the line of the `popdestroy` that ended a cell's life.
 pub fn destroyed_after_callee(
     page: &ScriptPage<'_>,
     ended: Ended,
@@ -106,7 +126,7 @@ pub fn destroyed_after_callee(
     }
 }
 
-/// Tells which body was called before an item was taken off, and left no item.
+/// Says which body was called before an item was taken off, and that this body left no item.
 pub fn put_callee(
     page: &mut ScriptPage<'_>,
     taken: Option<Taken>,
@@ -129,7 +149,7 @@ pub fn put_callee(
     )
 }
 
-/// Returns the item of a calling body with which `popdestroy` ended a cell's life; `None` if it took off no such item.
+/// Returns the item of a calling body with which `popdestroy` ended a cell's life; `None` if there is no such item.
 pub fn taken_with(ended: Ended, run: &WatchedRun<'_>) -> Option<Taken> {
     let taken = run.history.items.of_caller?;
     if ended.by == By::PopDestroy && taken.line == ended.at.number() {
@@ -139,7 +159,7 @@ pub fn taken_with(ended: Ended, run: &WatchedRun<'_>) -> Option<Taken> {
     }
 }
 
-/// Tells which line took off the item that is to be popped, and which body was called before that and left none.
+/// Says which line already took off the item that is to be popped, or which called body left no item before that.
 pub fn put_item_off(page: &mut ScriptPage<'_>, run: &WatchedRun<'_>) -> Written {
     if let Some(taken) = called_before(page, run) {
         return put_callee(page, Some(taken), run);
@@ -158,7 +178,7 @@ pub fn put_item_off(page: &mut ScriptPage<'_>, run: &WatchedRun<'_>) -> Written 
     }
 }
 
-/// Returns what to do about more items to be popped than there are.
+/// Returns what to do if more items are to be popped than there are.
 pub fn cure_of_off(page: &ScriptPage<'_>, run: &WatchedRun<'_>) -> &'static str {
     match (
         called_before(page, run),
@@ -172,7 +192,7 @@ pub fn cure_of_off(page: &ScriptPage<'_>, run: &WatchedRun<'_>) -> &'static str 
     }
 }
 
-/// The line that took off the last item of a cell; 0 if none did.
+/// The line that took off the last item of a cell; 0 if no line did.
 fn line_off(life: Life) -> u32 {
     match life.ended {
         Some(ended) if ended.by == By::PopDestroy => ended.at.number(),
@@ -180,8 +200,8 @@ fn line_off(life: Life) -> u32 {
     }
 }
 
-/// The item that a line took off after a body had been called that left none: the one that is to be popped, where that is known. `None` if
-/// there is none.
+/// The item that a line took off after a called body had left no item; if known, it is the item that is to be popped. `None` if there is
+/// no such item.
 fn called_before(page: &ScriptPage<'_>, run: &WatchedRun<'_>) -> Option<Taken> {
     let line = match run.history.lives.find(run.end.names) {
         Some(life) => line_off(life),

@@ -1,4 +1,4 @@
-//! What is told of the life of a cell: where it was made, put on the cleanup stack, and freed, deleted or moved, and by what.
+//! What is said about the life of a cell: where it was made, put on the cleanup stack, and freed, deleted or moved, and by what.
 
 use crate::runs::item_gone::has_two_items;
 use crate::runs::pointers::owner_left;
@@ -6,11 +6,11 @@ use crate::runs::script_page::{ScriptPage, Written};
 use crate::runs::taken::{destroyed_after_callee, put_callee, put_of_caller, taken_with};
 use wb_history::{BodyKind, By, End, Ended, History, Life, WatchedRun};
 
-/// What is told of a line that moved a cell though the cell had room to grow at its place.
+/// What is said about a line that moved a cell, though the cell had room to grow at its place.
 const MOVED_BY_FLAG: &str = "it moved here because of `--moving`: the bytes after it were free";
 
-/// Tells how the life of a cell ended, where the cell was pushed, and where it was made. Where it was pushed isn't told if its item was
-/// popped and a line itself ended its life.
+/// Says how the life of a cell ended, where the cell was pushed, and where the cell was made. Leaves out where the cell was pushed if its
+/// item was popped and a line itself ended the cell's life.
 pub fn put_life(page: &mut ScriptPage<'_>, run: &WatchedRun<'_>, life: Life) -> Written {
     let history = &run.history;
     if let Some(ended) = life.ended {
@@ -31,7 +31,7 @@ pub fn put_life(page: &mut ScriptPage<'_>, run: &WatchedRun<'_>, life: Life) -> 
     page.mark_new(life.made.number(), 1, "it was made here")
 }
 
-/// If a destructor released a cell, and its object was destroyed for a leave, tells which line left.
+/// Says which line left, if a destructor released a cell and the destructor's object was destroyed because of a leave.
 fn put_owner_left(
     page: &mut ScriptPage<'_>,
     run: &WatchedRun<'_>,
@@ -54,9 +54,9 @@ fn put_owner_left(
     }
 }
 
-/// If a cell moved, tells which pointer got the cell last, unless that was at the line that made the cell: the pointer still names the old
-/// place. If a destructor released the cell, or its item did, tells which field got it last; if a line did by that pointer, that it was made
-/// to name the cell.
+/// Says which pointer was last set to a cell, unless the line that made the cell set the pointer. Says this only in three cases: the cell
+/// moved; or the pointer is a field, and a destructor or the cell's item released the cell; or the line that freed the cell did so by this
+/// pointer, and `set` had made the pointer name the cell.
 fn put_other_holder(
     page: &mut ScriptPage<'_>,
     history: &History<'_>,
@@ -80,7 +80,7 @@ fn put_other_holder(
     }
 }
 
-/// Tells which line ended a cell's life, and what did it there: the line itself, the cleanup stack, or a body that undoes.
+/// Says which line ended a cell's life, and what ended it there: the line itself, the cleanup stack, a destructor or an operation.
 fn put_end(page: &mut ScriptPage<'_>, history: &History<'_>, ended: Ended) -> Written {
     let line = ended.at.number();
     let deed = match ended.end {
@@ -114,7 +114,7 @@ fn put_end(page: &mut ScriptPage<'_>, history: &History<'_>, ended: Ended) -> Wr
     }
 }
 
-/// Whether a line freed a cell by the pointer that `set` had made to name the cell at the line `held`, in the same body.
+/// Whether a line freed a cell by a pointer that a `set` in the same body, at the line `held`, had set to the cell.
 fn is_freed_by(page: &ScriptPage<'_>, history: &History<'_>, held: u32, ended: Ended) -> bool {
     let freed = ended.at.number();
     ended.by == By::Line

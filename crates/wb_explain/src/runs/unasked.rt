@@ -1,5 +1,5 @@
-//! What is said of further questions that a check tries unasked if it finds nothing: the first that shows a leak or a panic, one that
-//! wasn't decided, or that none shows anything. What is tried, and how long, is decided elsewhere.
+//! What is said about the further questions that a check tries on its own if it finds nothing: which question first shows a leak or a
+//! panic, which question stayed undecided, or that no question shows anything. Other code decides what is tried, and how long.
 
 use crate::runs::end_words::EndInWords;
 use crate::runs::number_lists::put_list;
@@ -9,14 +9,14 @@ use crate::runs::spread::lengths_of;
 use wb_runs::lengths::LengthRange;
 use wb_runs::run_end::RunEnd;
 
-/// A further question that a check tries unasked.
+/// A further question that a check tries on its own.
 #[derive(Clone, Copy, Debug, PartialEq, Eq)]
 pub enum Question {
-    /// Whether the script leaks or panics where some attempt and all later ones fail.
+    /// Whether the script leaks or panics if some attempt and all later attempts fail.
     Persistent,
     /// Whether the script leaks or panics in a heap of some length.
     Lengths,
-    /// Whether the script leaks or panics where some set of attempts fails, in a heap in which each cell that grows moves.
+    /// Whether the script leaks or panics if some set of attempts fails, in a heap that moves each cell that grows.
     Sets,
 }
 
@@ -31,14 +31,14 @@ impl Question {
     }
 }
 
-/// What shows a leak or a panic where a check found none.
+/// What shows a leak or a panic that a check had not found.
 #[derive(Clone, Copy)]
 pub enum Shown<'a> {
-    /// The failure of this attempt and of all later ones, and how the run ends.
+    /// The failure of this attempt and of all later attempts, and how the run ends.
     Persistent(u32, RunEnd),
     /// The table of all lengths of heaps: in some of them the run leaks or panics.
     Lengths(&'a [LengthRange]),
-    /// The failure of these attempts in a heap in which each cell that grows moves, and how the run ends.
+    /// The failure of these attempts in a heap that moves each cell that grows, and how the run ends.
     Sets(&'a [u32], RunEnd),
 }
 
@@ -81,7 +81,7 @@ fn put_set(page: &mut ScriptPage<'_>, numbers: &[u32], end: RunEnd, options: She
     page.page.end_line();
 }
 
-/// Says which range of lengths is the first whose runs leak or panic.
+/// Says which range of lengths is the first range in which runs leak or panic.
 fn put_least_bad(page: &mut ScriptPage<'_>, ranges: &[LengthRange], options: ShellOptions) {
     for (index, range) in ranges.iter().enumerate() {
         if let Some(spread) = lengths_of(ranges, index)
@@ -96,7 +96,7 @@ fn put_least_bad(page: &mut ScriptPage<'_>, ranges: &[LengthRange], options: She
     }
 }
 
-/// Says that a question wasn't decided, and which command asks it.
+/// Says that a question stayed undecided, and which command asks it.
 pub fn put_undecided(page: &mut ScriptPage<'_>, question: Question, options: ShellOptions) {
     let what = match question {
         Question::Persistent => "failures that persist",

@@ -1,5 +1,5 @@
-//! What is said of a table of lengths in which a longer heap does worse than a shorter one, though it doesn't leak or panic: in which heaps,
-//! and which attempt takes the room.
+//! What is said about a table of lengths if a run in a longer heap does worse than in a shorter heap, but doesn't leak or panic: in which
+//! heaps this is so, and which attempt takes the room.
 
 use crate::runs::script_page::{ScriptPage, Written};
 use crate::runs::spread::{Spread, lengths_of};
@@ -8,15 +8,15 @@ use wb_history::Attempts;
 use wb_runs::lengths::LengthRange;
 use wb_runs::run_end::RunEnd;
 
-/// Returns the greatest length of heap in which the run does better than in one that is longer by a byte; `None` if there is none. Of
-/// several it is the least.
+/// Returns the length of a heap in which the run does better than in a heap that is one byte longer; `None` if there is none. If there are
+/// several such lengths, returns the least.
 pub fn longest_better(ranges: &[LengthRange]) -> Option<u32> {
     let (shorter, _, _) = first_worse(ranges)?;
     Some(shorter.greatest)
 }
 
-/// The lengths of the first range in whose heaps the run comes to its end, though it leaves in those of the next range; the lengths of that
-/// next range, and the code of the leave.
+/// The lengths of the first range of heaps in which the run comes to its end, if it leaves in the heaps of the next range. Also returns the
+/// lengths of this next range, and the code of the leave.
 fn first_worse(ranges: &[LengthRange]) -> Option<(Spread, Spread, i32)> {
     for index in 0..ranges.len() {
         let next = index.saturating_add(1);
@@ -34,8 +34,8 @@ fn first_worse(ranges: &[LengthRange]) -> Option<(Spread, Spread, i32)> {
     None
 }
 
-/// Says in which heaps the run does worse than in shorter ones, if it does in any, and which attempt takes the room. `attempts` are those of
-/// the run in the longest heap that does better.
+/// Says in which heaps the run does worse than in shorter heaps, if there are such heaps, and which attempt takes the room. `attempts` are
+/// the attempts of the run in the longest heap that does better.
 pub fn put_worse(
     page: &mut ScriptPage<'_>,
     ranges: &[LengthRange],
@@ -52,7 +52,7 @@ pub fn put_worse(
     put_taker(page, shorter.greatest, attempts)
 }
 
-/// Shows the first attempt that ends just past this length: a heap of that length refuses it, and a longer one grants it.
+/// Shows the first attempt that ends just past this length. A heap of this length refuses this attempt, and a longer heap grants it.
 fn put_taker(page: &mut ScriptPage<'_>, length: u32, attempts: &Attempts<'_>) -> Written {
     for made in attempts.kept_attempts() {
         if made.attempt.answer == Answer::Refused && made.top() == length.saturating_add(1) {

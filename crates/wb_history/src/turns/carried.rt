@@ -8,14 +8,14 @@ use crate::moments::{Held, ShortLine};
 use crate::statements::{Ahead, NULL, Variable};
 use crate::traps::OpenTrap;
 use crate::turns::{Deletion, History};
-use crate::writes::PointerWrite;
+use crate::writes::{NullOf, PointerWrite};
 use std::alloc::AllocError;
 use wb_heap_model::heap::{Attempt, Ptr};
 use wb_machine::Machine;
 use wb_tree::script::Statement;
 
 impl<'a> History<'a> {
-    /// Sees a statement that was carried out.
+    /// Records a statement that was carried out.
     pub(crate) fn see_statement(
         &mut self,
         machine: &Machine<'a>,
@@ -42,7 +42,7 @@ impl<'a> History<'a> {
         }
     }
 
-    /// Sees that an object is to be deleted, unless it is null.
+    /// Records that an object is to be deleted, unless the pointer is null.
     fn see_delete(&mut self, object: Ptr) -> Result<(), AllocError> {
         if object.number != 0 {
             self.add_deletion(Deletion {
@@ -54,7 +54,7 @@ impl<'a> History<'a> {
         Ok(())
     }
 
-    /// Sees a statement that asked for a cell, or that reallocated one without an attempt.
+    /// Records a statement that asked for a cell, or that reallocated a cell without an attempt.
     fn see_asked(
         &mut self,
         machine: &Machine<'a>,
@@ -74,7 +74,7 @@ impl<'a> History<'a> {
         self.see_written(machine, ahead, names)
     }
 
-    /// Sees a statement that was to push an item.
+    /// Records a statement that was to push an item.
     fn see_push(
         &mut self,
         machine: &Machine<'a>,
@@ -97,7 +97,7 @@ impl<'a> History<'a> {
         Ok(())
     }
 
-    /// Sees a statement that neither asks for a cell nor frees one.
+    /// Records a statement that itself neither asks for a cell nor frees a cell.
     fn see_other_statement(
         &mut self,
         machine: &Machine<'a>,
@@ -129,14 +129,14 @@ impl<'a> History<'a> {
             }
             Statement::ReturnPointer(_) => {
                 self.blocks.end_body(machine.depth());
-                self.see_return(machine, ahead.source)
+                self.see_return(machine, ahead)
             }
             _ if ahead.leaves(None) => self.see_leave(machine, ahead),
             statement => self.views.see(machine, statement),
         }
     }
 
-    /// Sees a TRAP that begins.
+    /// Records a TRAP that begins.
     fn see_trap(&mut self, machine: &Machine<'a>) -> Result<(), AllocError> {
         self.blocks.begin_trap(machine.depth(), self.last)?;
         self.traps.begin(OpenTrap {
@@ -146,7 +146,7 @@ impl<'a> History<'a> {
         })
     }
 
-    /// Sees a leave. After it, the items that were pushed since its TRAP began are destroyed.
+    /// Records a leave. After the leave, the items that were pushed since its TRAP began are destroyed.
     fn see_leave(&mut self, machine: &Machine<'a>, ahead: &Ahead<'a>) -> Result<(), AllocError> {
         let now = self.now(machine)?;
         let items = self.traps.leave(now, ahead.code(), machine.depth())?;
@@ -157,7 +157,7 @@ impl<'a> History<'a> {
         self.blocks.leave(u32::try_from(above).unwrap_or(0))
     }
 
-    /// Sees the items that a statement popped.
+    /// Records the items that a statement popped.
     fn see_popped(&mut self, machine: &Machine<'a>) {
         for _ in machine.cleanup_depth() as usize..self.items.count() {
             if let Some(popped) = self.items.pop_by(self.last) {
@@ -167,8 +167,8 @@ impl<'a> History<'a> {
         }
     }
 
-    /// Sees an item that a line took off while `depth` bodies ran: whether a calling body had pushed it, or one that had ended and left it, and
-    /// whether a body was called in between that left none.
+    /// Records an item that a line took off while `depth` bodies ran: whether a calling body had pushed the item, whether an ended body had
+    /// left it, and whether a body that was called in between left no item.
     pub(crate) fn see_taken(&mut self, item: ItemOnStack, line: u32, depth: u32) {
         let pushed = item.pushed.line;
         if item.depth < depth
@@ -180,7 +180,7 @@ impl<'a> History<'a> {
             };
             self.items.of_caller = Some(Taken { line, pushed, body });
         }
-        if let Some(body) = self.calls.left_by(item.depth, item.pushed.step) {
+        if let Some(body) = item.left {
             self.items.of_callee = Some(Taken { line, pushed, body });
         }
         let inside = depth.saturating_add(1);
@@ -191,7 +191,7 @@ impl<'a> History<'a> {
         }
     }
 
-    /// Sees that the pointer that a statement wrote now names `names`.
+    /// Records that a statement wrote a pointer, which now names `names`.
     fn see_written(
         &mut self,
         machine: &Machine<'a>,
@@ -204,22 +204,55 @@ impl<'a> History<'a> {
         let depth = machine.depth();
         let held = self.hold_at(depth, variable.owner, variable.index);
         self.hold(variable.names, names, held);
-        self.note_write(depth, variable, names)
+        self.note_write(
+            depth,
+            Variable { names, ..variable },
+            machine.depth(),
+            ahead,
+        )
     }
 
-    /// Notes that the line that was begun last at this depth gave a pointer the value `names`.
-    fn note_write(&mut self, depth: u32, variable: Variable, names: Ptr) -> Result<(), AllocError> {
+    /// Notes that the line begun last at `depth` gave a pointer a value. `inside` is the depth of the body that ran the statement `ahead`.
+    fn note_write(
+        &mut self,
+        depth: u32,
+        variable: Variable,
+        inside: u32,
+        ahead: &Ahead<'a>,
+    ) -> Result<(), AllocError> {
+        let null_of = match ahead.null {
+            Some(source) if self.writes.looks_into_copy() => self.null_of(source, inside),
+            _ => None,
+        };
         self.writes.note(PointerWrite {
-            owner: variable.owner,
-            index: variable.index,
-            depth,
             line: self.calls.line_at(depth),
             step: self.steps,
-            names,
+            null_of,
+            was_dead: self.lives.has_ended(variable.names),
+            ..PointerWrite::any(variable, depth)
         })
     }
 
-    /// The local or field that gets a cell now, at the line that was begun last at this depth.
+    /// The first write of the null that the pointer `source` of the body at this depth has; `None` if this write isn't known.
+    fn null_of(&self, source: Variable, depth: u32) -> Option<NullOf> {
+        let write = self.write_of(source, depth)?;
+        let PointerWrite { line, step, .. } = write;
+        write.null_of.or(Some(NullOf { line, step }))
+    }
+
+    /// Returns the write that gave a pointer of the body at this depth its value; `None` if this write isn't known.
+    pub(crate) fn write_of(&self, variable: Variable, depth: u32) -> Option<PointerWrite> {
+        let write = self.writes.newest_of(&PointerWrite::any(variable, depth))?;
+        let is_of_body = variable.owner.number != 0
+            || self.calls.last_line_of(depth, write.step) != 0;
+        if write.names == variable.names && is_of_body {
+            Some(write)
+        } else {
+            None
+        }
+    }
+
+    /// The local or field that is set to a cell now, at the line that was begun last at this depth.
     fn hold_at(&self, depth: u32, owner: Ptr, index: u8) -> Held {
         Held {
             owner,
@@ -231,7 +264,7 @@ impl<'a> History<'a> {
         }
     }
 
-    /// Notes that a local or a field named one cell before, and names another now.
+    /// Notes that a local or a field named the cell `before`, and names the cell `now` from here on.
     #[inline(always)]
     fn hold(&mut self, before: Ptr, now: Ptr, held: Held) {
         if before != now {
@@ -240,9 +273,10 @@ impl<'a> History<'a> {
         self.lives.hold(now, held);
     }
 
-    /// Sees that the body that runs returns a pointer to its caller.
-    fn see_return(&mut self, machine: &Machine<'a>, pointer: Ptr) -> Result<(), AllocError> {
-        let depth = machine.depth().saturating_sub(1);
+    /// Records that the running body returns a pointer to its caller.
+    fn see_return(&mut self, machine: &Machine<'a>, ahead: &Ahead<'a>) -> Result<(), AllocError> {
+        let (inside, pointer) = (machine.depth(), ahead.source);
+        let depth = inside.saturating_sub(1);
         let Some(Statement::CallTo(index, ..)) = self.calls.statement_at(depth) else {
             return Ok(());
         };
@@ -252,8 +286,8 @@ impl<'a> History<'a> {
         let variable = Variable {
             owner: NULL,
             index: *index,
-            names: before,
+            names: pointer,
         };
-        self.note_write(depth, variable, pointer)
+        self.note_write(depth, variable, inside, ahead)
     }
 }

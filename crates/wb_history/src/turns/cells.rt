@@ -12,8 +12,8 @@ use wb_machine::Machine;
 use wb_meaning::run::Outcome;
 
 impl<'a> History<'a> {
-    /// Sees the cell that an attempt was granted: a new one, one that moved, or one that has grown at its place. Returns its pointer;
-    /// null if nothing was granted.
+    /// Records the cell that an attempt was granted: a new cell, a cell that moved, or a cell that grew at its place. Returns the cell's
+    /// pointer; null if nothing was granted.
     #[inline(never)]
     pub(crate) fn see_attempt(
         &mut self,
@@ -37,7 +37,7 @@ impl<'a> History<'a> {
         Ok(cell.pointer())
     }
 
-    /// Sees a new cell, or a cell that moved, at its new place.
+    /// Records a new cell, or a cell that moved, at its new place.
     fn see_new_cell(
         &mut self,
         machine: &Machine<'a>,
@@ -81,7 +81,7 @@ impl<'a> History<'a> {
             && are_free_but_for(machine, cell, old.place, until)
     }
 
-    /// The start of a part of a cell's life that begins now. `attempt` is 0 if no attempt begins it.
+    /// The start of a part of a cell's life that begins now. `attempt` is 0 if no attempt begins the part.
     fn start_now(&self, attempt: u32) -> PartStart {
         PartStart {
             step: self.steps,
@@ -90,7 +90,7 @@ impl<'a> History<'a> {
         }
     }
 
-    /// Sees what a reallocation without an attempt made of a cell.
+    /// Records the length of a cell that was reallocated without an attempt.
     pub(crate) fn see_shortened(
         &mut self,
         machine: &Machine<'a>,
@@ -104,7 +104,7 @@ impl<'a> History<'a> {
         self.course.resize(cell, start)
     }
 
-    /// Sees which of the objects that are being deleted were released: none, if as many cells are live as before.
+    /// Records which of the objects that are being deleted were released. If as many cells are live as before, none was released.
     #[inline(always)]
     pub(crate) fn see_deletions(&mut self, machine: &Machine<'a>) {
         let (live, _) = machine.alloc_size();
@@ -145,7 +145,7 @@ impl<'a> History<'a> {
         }
     }
 
-    /// Notes that the life of the cell that a pointer named ended.
+    /// Notes that a cell's life ended, given the pointer that named the cell.
     pub(crate) fn end_life(&mut self, pointer: Ptr, end: End, by: By, line: u32) {
         self.note_end(
             pointer,
@@ -158,7 +158,7 @@ impl<'a> History<'a> {
         );
     }
 
-    /// Notes how the life of the cell that a pointer named ended; does nothing for null.
+    /// Notes how a cell's life ended, given the pointer that named the cell; does nothing for null.
     fn note_end(&mut self, pointer: Ptr, ended: Ended) {
         if pointer.number != 0 {
             self.lives.end(pointer, ended);
@@ -166,7 +166,7 @@ impl<'a> History<'a> {
         }
     }
 
-    /// Sees how the run ended: which cells are leaks.
+    /// Records which cells are leaks at the end of the run.
     pub fn see_outcome(&mut self, outcome: &Outcome) {
         if let Outcome::Ended { leaks, .. } = outcome {
             for leak in leaks.as_slice() {

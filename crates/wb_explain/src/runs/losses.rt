@@ -1,0 +1,388 @@
+//! How a cell that leaks, or that a heap check counts, was lost; and what to do about it.
+
+use crate::runs::caught::{overlooked_leave, put_look};
+use crate::runs::dropped::{dropped_result, put_dropped};
+use crate::runs::paths::{AfterLine, before_name, put_path};
+use crate::runs::pointers::cure_of_failed;
+use crate::runs::script_page::{ScriptPage, Written};
+use crate::runs::taken::{Then, is_to_leave, put_cure_of_left, put_left};
+use wb_heap_model::heap::Kind;
+use wb_history::{BodyKind, By, End, Ended, Held, ItemOnStack, Leave, Life, Stay, WatchedRun};
+use wb_tree::script::{Holder, Pointer, Statement};
+
+/// How a cell was lost.
+#[derive(Clone, Copy)]
+enum Loss {
+    /// This line gave another value to the pointer that was last set to the cell.
+    Overwritten(u32),
+    /// The pointer that was last set to the cell was a field of an object that is gone.
+    OwnerGone(Life, Ended),
+    /// The pointer that was last set to the cell is a field of an object that leaks too.
+    OwnerLeaks(Life),
+    /// A leave cut short the code in which a local was set to the cell, and no item freed the cell.
+    Left(Leave),
+    /// The last pointer that was set to the cell was a local of a body that ended.
+    OutOfScope(Held),
+    /// An item that is still on the cleanup stack holds the cell.
+    OnStack(ItemOnStack),
+    /// A pointer still names the cell, as far as is known.
+    StillNamed,
+}
+
+/// The most cells that `is_lost` looks at: the cell itself, its owner, the owner of this owner, and so on.
+const MOST_OWNERS: usize = 8;
+
+/// Returns whether it is known how a cell was lost. If the cell's owner leaks too, returns whether it is known how the owner was lost.
+pub fn is_lost(page: &ScriptPage<'_>, life: Life, run: &WatchedRun<'_>) -> bool {
+    let mut at = life;
+    for _ in 0..MOST_OWNERS {
+        let loss = loss_of(at, run);
+        match loss {
+            Loss::OwnerLeaks(owner) => at = owner,
+            Loss::OnStack(_) => return left_with(page, loss, at, run).is_some(),
+            Loss::StillNamed => {
+                return skipped_by(page, at, run).is_some() || dropped_result(page, run).is_some();
+            }
+            _ => return true,
+        }
+    }
+    false
+}
+
+/// Says which pointer was last set to a cell. Writes nothing if the line that made the cell set it, or if no pointer is known.
+pub fn put_held(page: &mut ScriptPage<'_>, life: Life) -> Written {
+    match life.held {
+        Some(held) if held.line != life.made => {
+            let line = held.line.number();
+            let name = page.word(line, 1);
+            page.mark_new(line, 1, format_args!("`{name}` got it last, here"))
+        }
+        _ => Ok(()),
+    }
+}
+
+/// Says how a cell was lost, and what to do.
+pub fn put_loss(page: &mut ScriptPage<'_>, life: Life, run: &WatchedRun<'_>) -> Written {
+    put_held(page, life)?;
+    let loss = loss_of(life, run);
+    put_item(page, loss, life, run)?;
+    if let Loss::OwnerGone(owner, ended) = loss
+        && ended.end != End::Deleted
+        && ended.by != By::Line
+    {
+        let pushed = owner.pushed.number();
+        page.mark_new(pushed, 0, "the object that owned it was pushed here")?;
+    }
+    if let Loss::Left(leave) = loss
+        && leave.caught.is_some()
+    {
+        let lines = run.history.calls.lines_of(leave.at.path)?;
+        put_path(page, &run.history.bodies, lines.as_slice());
+    }
+    put_cure(page, loss, life, run);
+    Ok(())
+}
+
+/// Says which line popped the item of a cell, or which line pushed the item if no line popped it. If one body pushed the item and another
+/// popped it, names both lines. Then says which body left the item to its caller, if `left_with` finds one.
+fn put_item(page: &mut ScriptPage<'_>, loss: Loss, life: Life, run: &WatchedRun<'_>) -> Written {
+    let (popped, pushed) = (life.popped.number(), life.pushed.number());
+    if let Loss::OnStack(_) = loss {
+        page.mark_new(
+            pushed,
+            0,
+            "its item, still on the cleanup stack, was pushed here",
+        )?;
+    } else if popped == 0 {
+        page.mark_new(
+            pushed,
+            0,
+            "its item was pushed here, and the operation didn't free the cell",
+        )?;
+    } else if is_popped_elsewhere(life, run) {
+        page.mark_new(
+            popped,
+            0,
+            format_args!("its item, which line {pushed} had pushed, was popped here"),
+        )?;
+    } else {
+        page.mark_new(popped, 0, "its item was popped here")?;
+    }
+    match left_with(page, loss, life, run) {
+        Some(body) => put_left(page, body, Then(None), run),
+        None => Ok(()),
+    }
+}
+
+/// The body that left the item of a cell to its caller. `None` if no such body is known, or if the body's name says that it leaves an item.
+fn left_with(page: &ScriptPage<'_>, loss: Loss, life: Life, run: &WatchedRun<'_>) -> Option<Stay> {
+    let body = match (loss, run.history.items.of_callee) {
+        (Loss::OnStack(item), _) => item.left?,
+        (Loss::OutOfScope(_), Some(taken))
+            if taken.line == life.popped.number() && taken.pushed == life.pushed.number() => {
+            taken.body
+        }
+        _ => return None,
+    };
+    if is_to_leave(page, body, run) {
+        None
+    } else {
+        Some(body)
+    }
+}
+
+/// Whether one body pushed the item of a cell, and another body popped it.
+fn is_popped_elsewhere(life: Life, run: &WatchedRun<'_>) -> bool {
+    let bodies = &run.history.bodies;
+    let (popped, pushed) = (life.popped.number(), life.pushed.number());
+    popped != 0 && bodies.body_of(popped) != bodies.body_of(pushed)
+}
+
+/// Says what to do about a cell that was lost.
+fn put_cure(page: &mut ScriptPage<'_>, loss: Loss, life: Life, run: &WatchedRun<'_>) {
+    let name = match life.held {
+        Some(held) => page.word(held.line.number(), 1),
+        None => "",
+    };
+    if let Some(body) = left_with(page, loss, life, run) {
+        return put_cure_of_left(page, body, run);
+    }
+    match loss {
+        Loss::Overwritten(line) => put_overwritten(page, line, name, life.kind, run),
+        Loss::OwnerGone(_, ended) if ended.end != End::Deleted => {
+            let (line, cure) = (ended.at.number(), instead_of_plain(ended.by));
+            page.page.write_help(format_args!(
+                "line {line} freed the object that owned it as a plain cell, so its destructor didn't run: {cure}"
+            ));
+        }
+        Loss::OwnerGone(owner, ended) => {
+            let (line, class) = (ended.at.number(), class_name(page, owner));
+            page.page.write_help(format_args!(
+                "line {line} deleted the object that owned it: let the `destroy` of `{class}` free the field"
+            ));
+        }
+        Loss::OwnerLeaks(owner) => {
+            let (line, class) = (owner.made.number(), class_name(page, owner));
+            let field = name.split('.').nth(1).unwrap_or(name);
+            page.page.begin_note();
+            page.page.write(format_args!(
+                "it was lost with the object that line {line} made, whose field `{field}` named it: when that is deleted, the `destroy` of `{class}` will free it"
+            ));
+            page.page.end_line();
+        }
+        Loss::Left(leave) => put_left_cure(page, leave, life, run),
+        Loss::OutOfScope(held) => put_out_of_scope(page, life, held, name, run),
+        Loss::StillNamed => put_still_named(page, life, run),
+        Loss::OnStack(_) => {}
+    }
+}
+
+/// An overlooked leave that came after a pointer was last set to a cell, and may have skipped the freeing of the cell; `None` if none did.
+fn skipped_by(page: &ScriptPage<'_>, life: Life, run: &WatchedRun<'_>) -> Option<Leave> {
+    let since = life.held.map_or(u32::MAX, |held| held.since);
+    let leave = overlooked_leave(page, run)?;
+    if since <= leave.at.step {
+        Some(leave)
+    } else {
+        None
+    }
+}
+
+/// Says what to do about a cell that a pointer still names at the end of the run, or at a heap check. If a leave may have skipped the lines
+/// that free the cell, says also what to do about the leave.
+fn put_still_named(page: &mut ScriptPage<'_>, life: Life, run: &WatchedRun<'_>) {
+    let leave = skipped_by(page, life, run);
+    if leave.is_none()
+        && let Some(dropped) = dropped_result(page, run)
+    {
+        return put_dropped(page, dropped);
+    }
+    page.page.begin_help();
+    if leave.is_none() {
+        put_in_place_of_pop(page, life);
+    }
+    let (what, release) = match life.kind {
+        Kind::Object(_) => ("delete the object", "delete"),
+        _ => ("free the cell", "free"),
+    };
+    let end = if run.end.counted.is_some() {
+        "this check"
+    } else {
+        "the end"
+    };
+    page.page.write(format_args!("{what} before {end}, or let what owns it {release} it"));
+    page.page.end_line();
+    if let Some(leave) = leave {
+        put_look(page, leave);
+    }
+}
+
+/// Says what would have freed a cell whose item was popped; says nothing if the item wasn't popped.
+fn put_in_place_of_pop(page: &mut ScriptPage<'_>, life: Life) {
+    let line = life.popped.number();
+    if line != 0 {
+        let word = page.word(line, 0);
+        page.page.write(format_args!(
+            "use `popdestroy` in place of the `{word}` of line {line}, or "
+        ));
+    }
+}
+
+/// What to do instead of freeing an object as a plain cell. `by` says what freed the object.
+fn instead_of_plain(by: By) -> &'static str {
+    match by {
+        By::Line => "release an object with `delete`",
+        By::PopDestroy | By::Leave => "push an object with `pushobj`",
+    }
+}
+
+/// Says which line overwrote the pointer of a cell. If an attempt to reallocate failed at this line, says instead what to do about that.
+fn put_overwritten(
+    page: &mut ScriptPage<'_>,
+    line: u32,
+    name: &str,
+    kind: Kind,
+    run: &WatchedRun<'_>,
+) {
+    match cure_of_failed(run, line) {
+        Some(cure) => page.page.write_help_text(cure),
+        None => {
+            let release = release_of(kind);
+            page.page.write_help(format_args!(
+                "line {line} gave `{name}` another value: {release} before that"
+            ))
+        }
+    }
+}
+
+/// How a cell of this kind is released.
+fn release_of(kind: Kind) -> &'static str {
+    match kind {
+        Kind::Object(_) => "`delete` the object",
+        _ => "free the cell",
+    }
+}
+
+/// Says which body ended, and what to do. `held` is a local of this body, and was the last pointer that was set to the cell.
+fn put_out_of_scope(
+    page: &mut ScriptPage<'_>,
+    life: Life,
+    held: Held,
+    name: &str,
+    run: &WatchedRun<'_>,
+) {
+    let release = release_of(life.kind);
+    let body = run.history.bodies.body_of(held.line.number());
+    let (what, owner) = (before_name(body.kind), page.word(body.line, 1));
+    let line = held.caller.number();
+    let last = run
+        .history
+        .calls
+        .last_line_of(u32::from(held.depth), held.since);
+    if last != 0 && returns(run, held) {
+        return page.page.write_help(format_args!(
+            "line {line} doesn't take the pointer that `{owner}` returns: take it with `callto`, and {release}"
+        ));
+    }
+    let (end, otherwise) = (
+        AfterLine(last),
+        instead_of_freeing(body.kind, page.word(line, 0)),
+    );
+    page.page.begin_help();
+    page.page.write(format_args!(
+        "`{name}` went out of scope when {what}{owner}`, which line {line} called, ended{end}: "
+    ));
+    put_in_place_of_pop(page, life);
+    page.page
+        .write(format_args!("{release} before that{otherwise}"));
+    page.page.end_line();
+}
+
+/// What a body may do with its own cell instead of freeing the cell. `call` is the first word of the line that called the body.
+fn instead_of_freeing(kind: BodyKind, call: &str) -> &'static str {
+    match kind {
+        BodyKind::Procedure if call != "callto" => "",
+        BodyKind::Procedure => ", or return the pointer",
+        BodyKind::Construct => ", or keep the pointer in a field",
+        BodyKind::Nothing | BodyKind::Destructor | BodyKind::Operation => "",
+    }
+}
+
+/// Whether the body of this local ended by returning the local's pointer.
+fn returns(run: &WatchedRun<'_>, held: Held) -> bool {
+    match run.history.calls.statement_at(u32::from(held.depth)) {
+        Some(Statement::ReturnPointer(Pointer::Held(Holder::Local(index)))) => {
+            *index == held.index
+        }
+        _ => false,
+    }
+}
+
+/// Says which line left, and what to do about the cell's item.
+fn put_left_cure(page: &mut ScriptPage<'_>, leave: Leave, life: Life, run: &WatchedRun<'_>) {
+    page.page.begin_help();
+    page.page.write(format_args!("line {} left", leave.at.line));
+    if let Some(trap) = leave.caught {
+        page.page
+            .write(format_args!(", to the TRAP of line {},", trap.line));
+    }
+    page.page
+        .write_text(match (life.popped.is_some(), life.pushed.is_some()) {
+            (true, _) if is_popped_elsewhere(life, run) =>
+                " when its item was off the cleanup stack: pop that only when the cell has another owner; `popcheck` makes sure that no other item comes off",
+            (true, _) =>
+                " when its item was off the cleanup stack: pop that only when the cell has another owner",
+            (false, true) => " and ran the operation of its item: let that free the cell",
+            (false, false) =>
+                " while no item held the cell: push it before that, and pop the item when it is freed or has another owner",
+        });
+    page.page.end_line();
+}
+
+/// The name of an object's class.
+fn class_name<'a>(page: &ScriptPage<'a>, object: Life) -> &'a str {
+    match object.kind {
+        Kind::Object(class) => page.lines.class_name(class),
+        Kind::Raw | Kind::Text | Kind::Cleanup => "",
+    }
+}
+
+fn loss_of(life: Life, run: &WatchedRun<'_>) -> Loss {
+    if let Some(item) = run.history.items.find(life.pointer) {
+        return Loss::OnStack(item);
+    }
+    if life.overwritten.is_some() {
+        return Loss::Overwritten(life.overwritten.number());
+    }
+    let Some(held) = life.held else {
+        return Loss::StillNamed;
+    };
+    if held.is_field() {
+        return owner_of(held, run);
+    }
+    if let Some(leave) = run.history.traps.leave_that_ended(held) {
+        return Loss::Left(leave);
+    }
+    if held.depth > 1 && !still_runs(held, run) {
+        return Loss::OutOfScope(held);
+    }
+    Loss::StillNamed
+}
+
+/// Whether a heap check ended the run while the body of the local `held` still ran.
+fn still_runs(held: Held, run: &WatchedRun<'_>) -> bool {
+    let (calls, depth) = (&run.history.calls, u32::from(held.depth));
+    run.end.counted.is_some()
+        && depth <= calls.depth()
+        && calls.last_line_of(depth, held.since) != 0
+}
+
+fn owner_of(held: Held, run: &WatchedRun<'_>) -> Loss {
+    let Some(owner) = run.history.lives.find(held.owner) else {
+        return Loss::StillNamed;
+    };
+    match owner.ended {
+        Some(ended) => Loss::OwnerGone(owner, ended),
+        None => Loss::OwnerLeaks(owner),
+    }
+}
