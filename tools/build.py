@@ -66,17 +66,9 @@ class Build:
         way: dict[str, int] = {}
         for crate in reversed(self.libraries):
             way[crate] = lines[crate] + max((way[it] for it in way if crate in self.crates.uses(it)), default=0)
-        return [
-            Step(
-                crate,
-                partial(self.build_library, crate),
-                way[crate],
-                self.crates.uses(crate),
-                most=AT_ONCE if lines[crate] >= LARGE else 1,
-                least=lanes // 2 if lines[crate] >= LARGEST else 1,
-            )
-            for crate in self.libraries
-        ]
+        most = {it: AT_ONCE if lines[it] >= LARGE else 1 for it in self.libraries}
+        least = {it: lanes // 2 if lines[it] >= LARGEST else 1 for it in self.libraries}
+        return [Step(it, partial(self.build_library, it), way[it], self.crates.uses(it), most[it], least[it]) for it in self.libraries]
 
     def prove(self, crate: str, is_proved_by: Callable[[IO[str]], bool]) -> None:
         """Has a crate proved by what writes into a log; shows that and raises `Unproved` where it isn't, and else says how far the build
@@ -123,7 +115,7 @@ def build_if_older() -> int:
     """Builds the program, if it isn't built or is older than what it is made of."""
     crates = Crates()
     with building():
-        if PROGRAM.exists() and not next(crates.newer_than(PROGRAM.stat().st_mtime), None):
+        if PROGRAM.exists() and not crates.why_old():
             print(f"{PROGRAM.relative_to(ROOT)} is built, and newer than its sources")
             return 0
         try:

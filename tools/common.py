@@ -50,12 +50,15 @@ class Answer(NamedTuple):
     messages: bytes
     status: int
 
+    def lines(self) -> list[str]:
+        return self.output.decode("ascii").splitlines()
+
 
 class NoAnswer(Exception):
     """That a run took too long."""
 
 
-def answer_of(program: Path, *words: Word, script: bytes = b"", seconds: float = SECONDS, **how: Any) -> Answer:
+def answer_of(program: Path, *words: Word, script: bytes = b"", seconds: float | None = SECONDS, **how: Any) -> Answer:
     """What a program answers to words and a script on standard input. `how` is handed to `subprocess.run`: other streams, for example."""
     if not program.exists():
         sys.exit(f"there is no program {program}: ./build builds that of the workbench, and `rt run` in its crate another")
@@ -73,16 +76,11 @@ def parser_of(about: str | None) -> argparse.ArgumentParser:
     return argparse.ArgumentParser(description=cleandoc(about or ""), formatter_class=argparse.RawDescriptionHelpFormatter)
 
 
-def program_parser(about: str | None) -> argparse.ArgumentParser:
-    """A parser of the words of a command that runs the program."""
+def program_parser(about: str | None, default: Path | None = PROGRAM) -> argparse.ArgumentParser:
+    """A parser of the words of a command that runs the program, which has its whole path, since it may be run in another folder."""
     parser = parser_of(about)
-    parser.add_argument("--program", type=program_at, default=PROGRAM, metavar="PATH", help="the program, if not that of ./build")
+    parser.add_argument("--program", type=lambda it: Path(it).resolve(), default=default, metavar="PATH", help="if not that of ./build")
     return parser
-
-
-def program_at(path: str) -> Path:
-    """The whole path of a program, since it may be run in another folder."""
-    return Path(path).resolve()
 
 
 LAST_LINE = re.compile(r"^(\d+) passed, (\d+) failed\s*\Z", re.MULTILINE)
@@ -90,8 +88,6 @@ LAST_LINE = re.compile(r"^(\d+) passed, (\d+) failed\s*\Z", re.MULTILINE)
 
 @dataclass
 class Tally:
-    """How much passed and failed."""
-
     passed: int = 0
     failed: int = 0
 

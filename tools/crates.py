@@ -39,8 +39,6 @@ MEMORY, RUN_MEMORY = 3 << 30, 512 << 20
 
 
 class Crates:
-    """The crates that a `crates.txt` lists."""
-
     def __init__(self, root: Path = ROOT) -> None:
         self.root = root
         rows = (it.partition("#")[0].strip() for it in (root / "crates.txt").read_text(encoding="utf-8").splitlines())
@@ -79,6 +77,11 @@ class Crates:
                 for folder, _, files in os.walk(self.folder(crate) / part):
                     paths = (Path(folder, it) for it in [*sorted(files), "."])
                     yield from (it for it in paths if it.stat().st_mtime > time)
+
+    def why_old(self) -> str:
+        """Why the program of ./build gives old answers; nothing where it is newer than its sources."""
+        newer = next(self.newer_than(PROGRAM.stat().st_mtime), None)
+        return f"the program is older than its sources: {newer.relative_to(self.root)} is newer" if newer else ""
 
 
 @contextmanager
@@ -122,8 +125,7 @@ def is_being_built() -> bool:
 def processors(memory: int = MEMORY) -> int:
     """How many processes that take so much memory the processors and the free memory hold at once, or as many as the variable RT_JOBS
     says."""
-    given = os.environ.get("RT_JOBS", "")
-    if given.isdigit():
+    if (given := os.environ.get("RT_JOBS", "")).isdigit():
         return max(1, int(given))
     lines = Path("/proc/meminfo").read_text(encoding="utf-8").splitlines()
     kibibytes = next(int(it.split()[1]) for it in lines if it.startswith("MemAvailable:"))
@@ -145,9 +147,8 @@ class Step:
 
 
 def run_steps(steps: list[Step], lanes: int) -> None:
-    """Runs steps side by side, each once those that it waits for have ended. Several processes for one crate cost more in
-    all than one does, since each loads what the others do: so a step mostly gets a further processor only where no other
-    step could use it."""
+    """Runs steps side by side, each once those that it waits for have ended. Several processes for one crate cost more in all than one,
+    since each loads what the others do: so a step mostly gets a further processor only where no other step could use it."""
     waiting = sorted(steps, key=lambda it: -it.rank)
     ended: set[str] = set()
     running: dict[Future[None], tuple[Step, int]] = {}

@@ -14,7 +14,7 @@ from typing import NamedTuple
 from tools.common import CUT, REFUSED, NoAnswer, Tally, answer_of, examples, program_parser
 from tools.crates import RUN_MEMORY, processors
 from tools.language import words_of_roles
-from tools.worked_cases import all_cases, cases_of
+from tools.worked_cases import cases_of
 
 WORDS = re.compile(rb"[^ \n]+")
 NUMBER = re.compile(rb"(?<= )-?[0-9]+\b")
@@ -30,7 +30,7 @@ COMMANDS = ((["check", "--budget", "200"], 1), (["check", "--budget", "200", "--
 
 def seeds() -> list[bytes]:
     """The scripts of the cases and examples, but for the largest."""
-    scripts = [it.script for it in all_cases()] + [it.read_bytes() for it in examples()]
+    scripts = [it.script for it in cases_of("")] + [it.read_bytes() for it in examples()]
     return [text for text in scripts if 0 < len(text) <= 4000]
 
 
@@ -84,10 +84,8 @@ def share_of(seed: int, program: Path, keep: Path) -> tuple[list[str], Counter[s
 def fuzz(words: list[str]) -> int:
     """Runs the program on many damaged scripts, and looks whether it ever ends as it may not.
 
-    Each script is made of worked cases by a few changes: lines are dropped, doubled, moved, or taken from another script; words are put in
-    the place of others; bytes are cut off, changed or put in. `check` with a small budget must answer each with a status from 0 to 3: of
-    three scripts one by itself and one with `--every` within a second, and one with `--pairs` and a smaller budget within five. A script
-    that it answers otherwise is kept in the folder, and named.
+    Each script is made of worked cases by a few changes of lines, words and bytes. `check` with a small budget must answer each with a
+    status from 0 to 3 within a second, or with `--pairs` within five. A script that it answers otherwise is kept in the folder, and named.
     """
     parser = program_parser(fuzz.__doc__)
     parser.add_argument("--scripts", type=int, default=300_000, metavar="N", help="how many scripts [default: 300000]")
@@ -113,9 +111,8 @@ DECLARATIONS = words_of_roles("Declaration", "Field")
 
 
 class Mistake(NamedTuple):
-    """A script with a mistake: its lines, and which line numbers and words name the mistake."""
-
     lines: list[str]
+    # the numbers of lines and the words one of which names it
     numbers: set[int]
     words: set[str] = set()
 
@@ -160,7 +157,6 @@ def letter(edit: Callable[[str, int], str]) -> Maker:
 
 
 def opens(words: list[str]) -> bool:
-    """Whether a line begins what an `end` ends."""
     return bool(words) and (words[0] in OPENERS or words == ["construct"])
 
 
@@ -220,12 +216,8 @@ def mistakes(scripts: list[str]) -> Iterator[Mistake]:
 def count_mistakes(words: list[str]) -> int:
     """Makes 200 scripts with one mistake each, and counts how many of the mistakes are named.
 
-    The scripts come of the examples and the guide's cases, always the same ones: a letter is dropped or doubled or two are
-    swapped, a word is gone or one too many, an `end` is gone or too many, a declaration is gone. A mistake that leaves a script
-    that the workbench accepts, as one in a text that is printed, is passed over.
-
-    The mistake is named where standard error has a line `FILE:N:` with its number, or the word between backquotes. Of an `end` that
-    is gone the line of its block will do, and of a declaration the name.
+    The scripts come of the examples and the guide's cases, always the same ones. A mistake that leaves a script which the workbench accepts
+    is passed over. A mistake is named where standard error has a line `FILE:N:` with its number, or the word between backquotes.
     """
     program, tally, refused, named = program_parser(count_mistakes.__doc__).parse_args(words).program, Tally(), 0, 0
     with tempfile.TemporaryDirectory() as folder:

@@ -1,15 +1,13 @@
 """Lets allocations of the program itself fail, and looks at what it answers then.
 
-The program is asked to `check` a script; a case (`cases/README.md`), named as GROUP/NAME, has arguments of its own, and its script is
-given on standard input. Without a name these are the examples and some cases. For each number up to that of its last allocation the
-program runs three times: that one fails alone, with all later ones, and with all multiples of its number. Each of these runs must write
-the report that it writes with enough memory and end with its status, or write the line `no memory` and end with 4, or end with 4 before
-anything is read, where the command line itself finds no memory, and write nothing; nothing else may come of it. Standard error must have
-what it has with enough memory, or nothing, or that there is no memory for the command; or less: where no memory was left to find what
-raised a panic, the same panic of the same line with what holds of all such panics. Where `check` asks further questions and none was left
-for one, a line says that this isn't decided, and what is found by a later question may follow. Some of the runs that write `no memory`
-are made once more with a standard output that takes nothing, and must then end with 5. Where there are very many allocations, the first
-ones are tried, and of the others some from all over them.
+The program is asked to `check` a script; a case, named as GROUP/NAME, has arguments of its own, and its script is given on standard
+input. Without a name these are the examples and some cases. For each number up to that of its last allocation the program runs three
+times: that one fails alone, with all later ones, and with all multiples of its number; where there are very many, some of the later ones
+are tried. Each run must give the report and the status that it gives with enough memory, or write the line `no memory` and end with 4, or
+write nothing and end with 4 where the command line itself finds no memory. Standard error must have what it has with enough memory, or
+nothing, or that there is no memory for the command; or less: where none was left to find what raised a panic, the same panic with what
+holds of all such panics, and where none was left for a further question of `check`, that this isn't decided. Some runs that write
+`no memory` are made once more with a standard output that takes nothing, and must then end with 5.
 
 With `--same` the program is given no words and no input, and is one that makes a call once more where it found no memory: `wb_call_tests`,
 which `rt run` in its crate builds. So where a single allocation fails, it must write exactly what it writes with enough memory, and end
@@ -34,23 +32,11 @@ from itertools import accumulate, pairwise, takewhile, zip_longest
 from pathlib import Path
 from typing import Any
 
-from tools.common import (
-    PROGRAM,
-    READ_OR_WRITE_FAULT,
-    ROOT,
-    TOOLS,
-    WANT_OF_MEMORY,
-    Answer,
-    NoAnswer,
-    Tally,
-    answer_of,
-    examples,
-    program_parser,
-)
+from tools.common import PROGRAM, READ_OR_WRITE_FAULT, ROOT, WANT_OF_MEMORY, Answer, NoAnswer, Tally, answer_of, examples, program_parser
 from tools.crates import RUN_MEMORY, processors
 from tools.worked_cases import case_called
 
-SOURCE = TOOLS / "failing_allocation.c"
+SOURCE = Path(__file__).with_name("failing_allocation.c")
 # the cases that are tried beside the examples, if nothing else is named
 TRIED = """
 sweep/first-fit-reuses-hole.check sweep/eighth-push-grows-the-cleanup-cell.check sweep/unpushed-object-leaks-when-construction-fails.check
@@ -118,8 +104,7 @@ def shown(answer: Answer, plain: Answer) -> str:
 
 
 class Trial:
-    """A program that is given a script, with the library that refuses allocations; or that is given nothing, and makes a call once more
-    where it found no memory."""
+    """A program with the library that refuses allocations; one that makes calls once more where it found no memory is given no script."""
 
     def __init__(self, program: Path, script: Path | None, room: Path, each: Each = map) -> None:
         self.program, self.library, self.each = program, room / "failing_allocation.so", each
@@ -190,7 +175,7 @@ class Trial:
 
     def asked_needlessly(self, plain: Answer) -> str | None:
         """Which line is of what takes no memory, and made an allocation; None if none did."""
-        lines = plain.output.decode().splitlines()
+        lines = plain.lines()
         rises = {it[1] for it in map(RISE_OF_RUN.match, lines) if it}
         # the run ends with the turn of its last attempt, which lists the leaks
         ending = max((at for at, it in enumerate(lines) if ATTEMPT_OF_RUN.match(it)), default=0)

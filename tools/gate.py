@@ -32,8 +32,6 @@ class ToolRun(NamedTuple):
     # whether it spreads its runs over processors itself, and whether it takes so long that it begins with half of all
     is_spread: bool = False
     is_long: bool = False
-    # whether it passes or fails as a whole, whatever it counts
-    is_one: bool = False
 
     def name(self) -> str:
         return " ".join(self.words)
@@ -63,22 +61,14 @@ class ToolRuns:
     def run(self, it: ToolRun, jobs: int) -> None:
         """Runs a tool with so many processors, and shows what it printed."""
         begun = time.monotonic()
+        world, nothing, pipe, same = {**os.environ, "RT_JOBS": str(jobs)}, subprocess.DEVNULL, subprocess.PIPE, subprocess.STDOUT
         with subprocess.Popen(
-            tool(*it.words),
-            cwd=ROOT,
-            env={**os.environ, "RT_JOBS": str(jobs)},
-            stdin=subprocess.DEVNULL,
-            stdout=subprocess.PIPE,
-            stderr=subprocess.STDOUT,
-            text=True,
-            errors="replace",
+            tool(*it.words), cwd=ROOT, env=world, stdin=nothing, stdout=pipe, stderr=same, text=True, errors="replace"
         ) as running:
             said = running.stdout.read() if running.stdout else ""
             _, status, used = os.wait4(running.pid, 0)
             running.returncode = os.waitstatus_to_exitcode(status)
         told = tally_of(said, running.returncode)
-        if it.is_one:
-            told = Tally(int(not told.failed), int(told.failed > 0))
         with self.printing:
             print(f"== {it.name()}\n{said}", end="", flush=True)
             self.outcomes.append(Outcome(it.name(), told, time.monotonic() - begun, processor_seconds(used)))

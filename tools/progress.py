@@ -1,7 +1,7 @@
-"""Runs long sweeps of the program, and looks at what is said of their progress on standard error.
+"""Runs long runs and sweeps of the program, and looks at what is said of their progress on standard error.
 
-They are of single failures, rates, pairs, sets and lengths. On a terminal one line says which failure or length is being tried, and what
-is known to show nothing. It appears once a sweep has taken two seconds, is rewritten in place, and is wiped before the report. Elsewhere a
+The sweeps are of single failures, rates, pairs, sets and lengths. On a terminal one line says which failure or length is being tried, and
+what is known to show nothing, or how many steps a run has taken. It appears once a run or a sweep has taken two seconds, is rewritten in place, and is wiped before the report. Elsewhere a
 line is written each minute, and with --quiet nothing. Nor is anything said of a sweep that is shorter. The scripts are made longer and
 longer until their sweeps take long enough on this machine.
 
@@ -36,11 +36,15 @@ LIMIT, PATIENCE, BUDGET = 300, 20.0, ("--budget", "1000000")
 LEFT = r"(?:, (?P<done>\d+)% done, (?P<left>\d+) (?:s|min|h) left)?"
 FINE = r"(?:, (?:nothing|none) up to (?P<fine>\d+))?"
 LINE = re.compile(rf"trying (?P<what>attempt|rate) (?P<at>\d+) of (?P<of>\d+){FINE}{LEFT}")
-# the line of what is tried, where that is neither an attempt nor a rate
+# the line of what is tried, where that is neither an attempt nor a rate; and how many steps lie between two that are said
 LINES = {
     "heap": re.compile(r"trying a heap of (?P<at>\d+) bytes, (?P<done>\d+)% of the lengths done"),
+    "steps": re.compile(r"running, (?P<at>\d+) steps taken"),
     "set": re.compile(rf"trying (?P<size>\d+) attempts, attempt (?P<at>\d+) of (?P<of>\d+) first{FINE}{LEFT}"),
 }
+STEPS = 4096
+# what any line on progress has in it
+SAID = re.compile(rb"trying |running, ")
 TYPED = b"workbench: the script is read from the terminal; end it with Ctrl-D on a line of its own\r\n"
 
 
@@ -90,10 +94,10 @@ LEAKING = QUIET_SCRIPT.removesuffix("end\n") + "if eq failed 0\nalloc b 16\nallo
 GROWING = "proc main\nptr a\nint n\nalloc a 16\nset n 16\nrepeat {0}\nadd n 16\nrealloc a a n\nend\nfree a\nend\n"
 # a script of which only the runs take long in which attempt 4 or 5 fails: each copies a long text so many times
 FALLING_BACK = "alloc a 16\nif null a\nrepeat {0}\ncopy t s\nend\nend\nfree a\n"
-SLOW_FAILURES = (
-    "proc main\nptr a\nptr s\nptr t\nhnewl s 500000\npush s\nhnewl t 500000\npush t\nsetlength s 500000\n"
-    f"{FALLING_BACK}{FALLING_BACK}popdestroy 2\nend\n"
-)
+LONG_TEXTS = "proc main\nptr a\nptr s\nptr t\nhnewl s 500000\npush s\nhnewl t 500000\npush t\nsetlength s 500000\n"
+SLOW_FAILURES = f"{LONG_TEXTS}{FALLING_BACK}{FALLING_BACK}popdestroy 2\nend\n"
+# a run that copies such a text so many times
+COPYING = LONG_TEXTS + "repeat {0}\ncopy t s\nend\npopdestroy 2\nend\n"
 
 KINDS = [
     Kind(["sweep"], LEAKING, 100, 2, "attempt"),
@@ -102,6 +106,8 @@ KINDS = [
     Kind(["sweep", "--pairs", "--json"], QUIET_SCRIPT, 20, 3, "set", most=2),
     Kind(["lengths"], GROWING, 200, 2, "heap"),
     Kind(["sweep", "--failures", "3"], QUIET_SCRIPT, 10, 4, "set", most=3),
+    Kind(["run"], COPYING, 1000, 1, "steps"),
+    Kind(["size"], COPYING, 1000, 1, "steps"),
 ]
 SLOW = Kind(["sweep"], SLOW_FAILURES, 20, 1, "attempt")
 
@@ -163,10 +169,13 @@ def look_at_lines(checks: Trials, kind: Kind, name: str, attempts: int, shown: S
     lines = kind.lines(shown)
     numbers = [int(it["at"]) for it in lines]
     checks.look(f"{name}: a line", len(lines) > 0, shown.bytes()[:200])
-    said_at = [at for at, piece in shown.pieces if b"trying" in piece]
+    said_at = [at for at, piece in shown.pieces if SAID.search(piece)]
     checks.look(f"{name}: none before two seconds", all(at >= QUIET - PAUSE for at in said_at))
     checks.look(f"{name}: the first soon after them", min(said_at, default=0.0) <= QUIET + LATE, said_at[:1])
     checks.look(f"{name}: no more than ten a second", len(lines) <= 1 + (shown.seconds - QUIET + PAUSE) / PAUSE, len(lines))
+    if kind.calls == "steps":
+        checks.look(f"{name}: more and more steps", numbers == sorted({it for it in numbers if it % STEPS == 0}), numbers)
+        return
     if kind.calls == "heap":
         checks.look(f"{name}: each shorter", numbers == sorted(set(numbers), reverse=True), numbers)
         shares = [100 * (CEILING - number) // CEILING for number in numbers]
@@ -200,11 +209,11 @@ def look_at(program: Path, kind: Kind) -> Trials:
         with ThreadPoolExecutor() as beside:
             lost = beside.submit(losing_terminal, program, kind, script)
             shown, gone = show(program, kind, script), lost.result()
-        if any(it["done"] for it in kind.lines(shown)) or shown.seconds >= PATIENCE:
+        if any(kind.calls == "steps" or it["done"] for it in kind.lines(shown)) or shown.seconds >= PATIENCE:
             break
         # most of the time was taken by what comes before or after the sweep, or the machine has become quicker meanwhile
         attempts += attempts // 4
-    checks.look(f"{name}: nothing is said without a terminal", b"trying" not in ran.messages and b"\r" not in ran.messages, ran.messages)
+    checks.look(f"{name}: nothing is said without a terminal", not SAID.search(ran.messages) and b"\r" not in ran.messages, ran.messages)
     told = re.search(rb'attempts"?[ :](\d+)', ran.output)
     checks.look(f"{name}: the report where the terminal goes away", gone[0] == ran.output and gone.status == ran.status, gone)
     look_at_lines(checks, kind, name, int(told[1]) if told else 0, shown)

@@ -35,8 +35,6 @@ SPAN = re.compile(r"(\d+)(?:\.\.(\d+))?")
 
 
 class Row(NamedTuple):
-    """A row of a table: where it stands, what the program is given, and what it must answer."""
-
     place: str
     words: list[str]
     script: bytes
@@ -44,7 +42,6 @@ class Row(NamedTuple):
     messages: str
 
     def fault(self, answer: Answer) -> str | None:
-        """What is wrong with an answer to it, or None."""
         statuses, wanted = wanted_of(self.answer)
         if answer.status not in statuses:
             return f"wanted status {' or '.join(map(str, statuses))}, got {answer.status} and {answer.output[:100]!r}"
@@ -161,7 +158,6 @@ def first_missing(wanted: list[str], given: bytes) -> str | None:
 
 
 def fault_of(case: Case, answer: Answer) -> str | None:
-    """What is wrong with an answer to a case, or None."""
     answered, missing = with_answer(case, answer), first_missing(case.contains or [], answer.output)
     if answered == case:
         return missing
@@ -178,10 +174,9 @@ def difference(case: Case, other: Case) -> Iterator[str]:
 
 
 class Chosen(NamedTuple):
-    """A case or a table that is to be run: its group, its block, and the case, if it is one."""
-
     group: Group
     block: Block
+    # none of a table
     case: Case | None
 
     def is_called(self, name: str) -> bool:
@@ -212,12 +207,6 @@ class Chosen(NamedTuple):
             yield not fault, f"{case.place}: {fault}" if fault else ""
 
 
-def why_old(program: Path) -> str:
-    """Why a program gives old answers; nothing of one that ./build didn't build, or that is newer than its sources."""
-    newer = next(Crates().newer_than(PROGRAM.stat().st_mtime), None) if program == PROGRAM and PROGRAM.exists() else None
-    return f"the program is older than its sources: {newer.relative_to(ROOT)} is newer" if newer else ""
-
-
 def all_in(folder: Path, tally: Tally) -> Iterator[Chosen]:
     """All cases and tables in a folder. A file that is neither a group nor a page counts as a failure."""
     for file in sorted(it for it in folder.rglob("*") if it.is_file() and it.suffix not in (SUFFIX, ".md")):
@@ -240,7 +229,8 @@ def main(words: list[str]) -> int:
     parser.add_argument("--show", action="store_true", help="show the cases as they would be typed in a shell, and run nothing")
     parser.add_argument("--write", action="store_true", help="write the program's answers into the cases that fail")
     given, tally = parser.parse_args(words), Tally()
-    if not given.show and (why := why_old(given.program)):
+    is_built = given.program == PROGRAM and PROGRAM.exists()
+    if not given.show and is_built and (why := Crates().why_old()):
         print(why + (": ./build comes before --write" if given.write else ""), file=sys.stderr)
         if given.write:
             return 1

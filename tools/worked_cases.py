@@ -91,8 +91,6 @@ def spelled(text: bytes) -> list[str]:
 
 @dataclass(frozen=True)
 class Case:
-    """What a program is given, and what it must answer."""
-
     # the name ends with the command that is run, after a dot; no other case of the group has it
     name: str
     group: str
@@ -124,12 +122,12 @@ class Block:
 
 @dataclass
 class Group:
-    """A group: its name, its file, what is said at its top, its scripts and tables, and the lines of texts with repetitions."""
-
     name: str
     file: Path
+    # what is said at its top
     head: list[str] = field(default_factory=list)
     blocks: list[Block] = field(default_factory=list)
+    # the lines of texts with repetitions
     spelling: dict[bytes, list[str]] = field(default_factory=dict)
 
     def cases(self) -> list[Case]:
@@ -169,10 +167,8 @@ class Group:
 
     def add(self, line: int, title: str, lines: list[str]) -> None:
         """Adds a script or a table that begins in a line of the file."""
-        if title.endswith(TABLE):
-            self.blocks.append(Block(line, title.removesuffix(TABLE), table=without_blanks(lines)))
-        else:
-            self.blocks.append(Block(line, title, self.text_of(lines)))
+        table = without_blanks(lines) if title.endswith(TABLE) else None
+        self.blocks.append(Block(line, title.removesuffix(TABLE), self.text_of(lines) if table is None else b"", table=table))
 
     def write(self) -> None:
         self.file.write_text(self.text(), encoding="ascii")
@@ -253,12 +249,8 @@ def files_in(folder: Path, name: str = "") -> dict[str, Path]:
 
 
 def cases_of(name: str) -> list[Case]:
-    """The cases of a group, or of all groups of a folder."""
+    """The cases of a group, or of all groups of a folder; of all where no name is given."""
     return [case for group, file in files_in(CASES, name).items() for case in read(file, group).cases()]
-
-
-def all_cases() -> list[Case]:
-    return cases_of("")
 
 
 def case_called(place: str) -> Case:

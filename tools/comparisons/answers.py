@@ -17,8 +17,6 @@ WHOLE_ENDS = ("panic ", "cut ", "nocleanup")
 
 
 class Report(NamedTuple):
-    """The lines that a command writes, and its status."""
-
     lines: list[str]
     status: int
 
@@ -26,7 +24,6 @@ class Report(NamedTuple):
         return [line for line in self.lines if line.startswith(f"{word} ")]
 
     def shown(self) -> str:
-        """How it begins, for a message."""
         return f"status {self.status} and {self.lines[:4]}"
 
     def attempts(self) -> int:
@@ -60,7 +57,7 @@ class Script:
         asked = tuple(map(str, words))
         if asked not in self.known:
             told = self.ask(*asked)
-            self.known[asked] = Report(told.output.decode("ascii").splitlines(), told.status)
+            self.known[asked] = Report(told.lines(), told.status)
         return self.known[asked]
 
     def run(self, *words: str | int) -> Report:

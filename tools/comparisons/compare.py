@@ -15,7 +15,7 @@ from fnmatch import fnmatchcase
 from functools import partial
 from pathlib import Path
 
-from tools.common import CUT, PROGRAM, ROOT, NoAnswer, Tally, examples, parser_of, program_at, programs
+from tools.common import CUT, PROGRAM, ROOT, NoAnswer, Tally, examples, program_parser, programs
 from tools.comparisons.answers import Difference, Script
 from tools.comparisons.made_scripts import SCRIPTS, SEED, SORTS, scripts
 from tools.comparisons.single_runs import compare_lengths, compare_lists, compare_moving, compare_steps
@@ -183,9 +183,8 @@ def compare_scripts(name: str, given: argparse.Namespace, tally: Tally) -> None:
 
 
 def main(words: list[str]) -> int:
-    parser = parser_of(__doc__)
+    parser = program_parser(__doc__, None)
     parser.add_argument("kinds", nargs="*", metavar="KIND", help=f"one of {', '.join(KINDS)} [default: all]")
-    parser.add_argument("--program", type=program_at, metavar="PATH", help="the program, if not that of ./build")
     parser.add_argument("--scripts", type=int, default=SCRIPTS, metavar="N", help=f"how many scripts are made [default: {SCRIPTS}]")
     parser.add_argument("--seed", type=int, default=SEED, metavar="N", help=f"which scripts [default: {SEED}]")
     parser.add_argument("--keep", type=Path, metavar="FOLDER", help="where scripts go that differ")

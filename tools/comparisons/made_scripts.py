@@ -41,9 +41,8 @@ NEEDED = "ptr cell; ptr kept; int seen"
 
 
 class Part(NamedTuple):
-    """A part of a script: its name, and its lines, each of some statements."""
-
     name: str
+    # each of some statements
     lines: tuple[str, ...]
 
     def body(self, chance: random.Random, is_wrong: bool) -> list[str]:

@@ -1,28 +1,19 @@
 """Compares what runs tell with what other runs and commands tell of the same: by lists, in heaps where cells move, of all lengths, and step
 by step.
 
-**Lists.** In a run by `--set` just the attempts of the list must fail, beside those that the script's own setting makes fail. A list of
-one number must give the run by `--fail`, one of two that by `--fail` and `--also`, and so with each other option of RULES. Without its
-numbers past the last attempt a list must give the same run, and `--json` the same lines.
+**Lists.** In a run by `--set` just the attempts of the list must fail, beside those that the script's own setting makes fail. A list must
+give the run by each other option that makes the same attempts fail, or by `--fail` and `--also`.
 
-**Moving.** Where a run by `--moving` is fine, the same run in a heap whose cells may stay must print the same lines, take as many steps and
-end alike, and must ask for the same attempts, with the same answers: only places may differ. So must a run with a minimum length and a
-step of its own.
+**Moving.** Where a run by `--moving` is fine, the same run in a heap whose cells may stay, or in one of another shape, must be the same but
+for places.
 
-**Lengths.** Runs are made by `run --limit L`: for the first and the last length of each range of the table, one between them, and fifty
-lengths at random, half of them from 0 to the ceiling and half below twice the length at which the last range begins. Each must end as its
-range says. The length found must be where the first range begins whose runs leak or panic, with just the lines of that run, and `length
-none` comes only where there is no such range; the status follows from the ranges. Neighbours must differ. Where `size` finds a length, the
-last range begins there at most, and its words are those of the run without a limit. `--json` must write the same lines and ranges, and
-`check` the lines of `size` and of `sweep`, as it would without `lengths`.
+**Lengths.** Runs in heaps of the first and the last length of each range of the table, of one between them, and of fifty at random, half of
+them below twice the length at which the last range begins, must end as the range says. The length found must be where the first range
+begins whose runs leak or panic, with the lines of that run.
 
-**Steps.** The program is asked for `run` and for `run --follow --follow-steps 1000000`: without failure, under `--every 2`, under `--fail`
-of each of the first numbers of attempts, and in a heap that is too short. Reports and statuses must be the same. On standard error the
-explanation must stand behind the steps, without the line that names `--follow`. There must be a row for each step and none more, and the
-rows must tell of the report's attempts, in their order, with their lengths, places and answers. What the rows say is granted, moved, made
-longer or shorter, and freed must come to the cells that the report lists as leaks, beside that of the cleanup stack; each cell has the
-number of the attempt that made or moved it last. With `--follow-steps 3` the first and the last three rows must be the same, and one
-between them must count the others. No row has more than 80 columns.
+**Steps.** `run --follow` must have a row for each step, and its rows must tell of the report's attempts. What they say is granted, moved,
+made longer or shorter, and freed must come to the cells that the report lists as leaks, beside that of the cleanup stack. The explanation
+must stand behind the steps. With few steps the first and the last rows must be the same, and one between them must count the others.
 """
 
 import random
@@ -142,8 +133,6 @@ def without_places(run: Report) -> Report:
 
 
 class Range(NamedTuple):
-    """Lengths whose runs end alike, as a table tells them."""
-
     first: int
     last: int
     words: str

@@ -4,16 +4,14 @@ The numbers that a sweep makes fail are tried in the order of their count, and t
 whose run leaks, panics or is cut must be what the sweep tells, with just the lines of that run. Numbers before it must show nothing: all
 single ones are run, and of greater sets all, or some from all over them where these are very many. A number past the last attempt of a
 run must change nothing. Sweeps over fewer numbers must find the same as far as they go. What is found in a part of the numbers must be one
-of them and have the lines of its run, and the least of these answers must be the whole answer. `check` must have the lines of `size` and
-of the sweep, and `--json` the same lines, with the numbers as `number`.
+of them and have the lines of its run, and the least of these answers must be the whole answer. `check` and `--json` must say the same.
 
 `--all` must have a line for each number up to the last attempt whose run leaks, panics or is cut, with the words for its end, and `--ends`
 one for each number; then how many leak or panic, and the lines of the least such run. So must each part, for its numbers.
 
-With `--states 1` a sweep over all sets must tell a single number, or `set none to 1` and `cut states`. With more states it must tell what
-it tells without the option, or `cut states` after a number of failures which grows with the states, to which `--failures` finds nothing.
-More states than may be met must be there: pairs of a set of at most one attempt more, all of them made, and of how many attempts its run
-has made when it asks for another.
+With few states a sweep over all sets must tell what it tells without the option, or `cut states` after a number of failures which grows
+with the states, to which `--failures` finds nothing. More states than may be met must be there: pairs of a set of at most one attempt more,
+all of them made, and of how many attempts its run has made when it asks for another.
 """
 
 import math
@@ -117,8 +115,6 @@ SETS = Sweep(
 
 
 class Swept:
-    """What a sweep finds in a script, beside single runs."""
-
     def __init__(self, sweep: Sweep, script: Script) -> None:
         self.sweep, self.script, self.must = sweep, script, script.must
         self.words = spelled("sweep", *sweep.flags)

@@ -3,14 +3,13 @@
 import json
 import os
 import re
-import subprocess
 import tempfile
 from collections.abc import Iterator
 from pathlib import Path
-from typing import Any, NamedTuple
+from typing import Any
 from urllib.parse import unquote
 
-from tools.common import CUT, EXAMPLES, FINE, FOUND, READ_OR_WRITE_FAULT, ROOT, Answer, Trials, Word, examples, program_parser
+from tools.common import CUT, EXAMPLES, FINE, FOUND, READ_OR_WRITE_FAULT, ROOT, Answer, Trials, Word, answer_of, examples, program_parser
 
 COMMANDS = (["check"], ["run"], ["run", "--fail", "3"], ["lengths"], ["sweep", "--every"], ["check", "--sets", "--moving"])
 SCHEMA = "https://docs.oasis-open.org/sarif/sarif/v2.1.0/errata01/os/schemas/sarif-schema-2.1.0.json"
@@ -47,6 +46,9 @@ def result_faults(result: dict[str, Any], rules: list[dict[str, Any]], uri: str,
     flows = [it["location"] for flow in result.get("codeFlows", []) for thread in flow["threadFlows"] for it in thread["locations"]]
     if "codeFlows" in result and not flows:
         yield f"{what}: a code flow without a location"
+    failed, in_flows = ([it["message"]["text"] for it in its if " failed here" in it["message"]["text"]] for its in (related, flows))
+    if not set(failed) <= set(in_flows):
+        yield f"{what}: failed attempts that no code flow has"
     if any(not it["message"]["text"] for it in [*related, *flows]):
         yield f"{what}: a location without a message"
     for location in (*result["locations"], *related, *flows):
@@ -124,11 +126,9 @@ class Logs(Trials):
 def check_logs(words: list[str]) -> int:
     """Has the built program write SARIF logs, and checks what they hold.
 
-    The logs of all examples, by several commands, must keep the rules of SARIF 2.1.0 that matter to a reader: the schema and version, one
-    run with the tool's name and rules, and for each result its rule, a message, places from line and column 1 on, numbered related
-    locations and code flows. They must have one result for each finding on standard error, with its words and its line, and the report, the
-    messages and the status must be those without a log. A log replaces only a log of the program; where it can't, the status is 5 and every
-    file is as before.
+    The logs of all examples, by several commands, must keep the rules of SARIF 2.1.0 that matter to a reader. They must have one result for
+    each finding on standard error, with its words and its line, and the answer must be the one without a log. A log replaces only a log of
+    the program; where it can't, the status is 5 and every file is as before.
     """
     given = program_parser(check_logs.__doc__).parse_args(words)
     with tempfile.TemporaryDirectory() as folder:
@@ -166,12 +166,6 @@ STEPS: list[tuple[str, str | None, str, int, str, int]] = [
 ]
 
 
-class Told(NamedTuple):
-    lines: list[str]
-    explained: str
-    status: int
-
-
 class ForCI(Trials):
     def put(self, name: str, script: str | None = "") -> Path:
         """Writes a script into the folder; an example of its name where there is no text, and none where it goes."""
@@ -180,20 +174,18 @@ class ForCI(Trials):
         file.unlink() if script is None else file.write_text(script or (EXAMPLES / name).read_text(encoding="ascii"), encoding="ascii")
         return file
 
-    def call(self, *words: str | Path, tool: Path = CHECK, program: Path | None = None, room: Path | None = None) -> Told:
+    def call(self, *words: str | Path, tool: Path = CHECK, program: Path | None = None, room: Path | None = None) -> Answer:
         """What `check-folder` says on these words, or the other script, in the folder above the scripts."""
-        environment = dict(os.environ, WORKBENCH=str(program or self.program))
-        ran = subprocess.run([tool, *words], cwd=room or self.room, env=environment, capture_output=True, text=True)
-        return Told(ran.stdout.splitlines(), ran.stderr, ran.returncode)
+        return answer_of(tool, *words, cwd=room or self.room, env=dict(os.environ, WORKBENCH=str(program or self.program)), seconds=None)
 
     def try_examples(self) -> None:
         """Whether all examples have the required lengths that the baseline names, and no others are there."""
         told = self.call("examples", "--baseline", LENGTHS, room=ROOT)
         self.expect("the status of the examples", told.status, FOUND)
-        self.expect("how many examples have a line", len(told.lines), len(examples()))
+        self.expect("how many examples have a line", len(told.lines()), len(examples()))
         rows = (line.split(" ", 1) for line in LENGTHS.read_text(encoding="ascii").splitlines())
         wanted = {f"examples/{name}": length for length, name in rows}
-        for line in told.lines:
+        for line in told.lines():
             name, _, said = line.partition(": ")
             words = [it for it in said.split(", ") if it.startswith(("required", *FAULTS))]
             self.expect(f"what the baseline says of {name}", words, [f"required {wanted.get(name)}"])
@@ -204,7 +196,7 @@ class ForCI(Trials):
             self.put(name, script)
         told = self.call("scripts", *BASELINE.split(), "--write-baseline")
         self.expect("a folder without faults", told.status, FINE)
-        self.expect("what is said of it beside its lines", told.explained, "")
+        self.expect("what is said of it beside its lines", told.messages, b"")
         wanted = "560 holes.oom\n176 inner/small.oom\n"
         self.expect("the baseline", (self.room / "lengths.txt").read_text(encoding="utf-8")[: len(wanted)], wanted)
         self.expect("the folder as it was", self.call("scripts", *BASELINE.split()), told)
@@ -214,11 +206,11 @@ class ForCI(Trials):
         for name, script, options, at, line, status in STEPS:
             self.put(name, script)
             told = self.call("scripts", *options.split())
-            self.expect(f"{name} with {options}", told.lines[at], f"scripts/{line}")
+            self.expect(f"{name} with {options}", told.lines()[at], f"scripts/{line}")
             self.expect(f"the status of {name} with {options}", told.status, status)
             if name == "second-phase-leaks.oom":
-                self.expect("its explanation", "second-phase-leaks.oom:16: leak: " in told.explained, True)
-        self.expect("all lines", len(told.lines), 5)
+                self.expect("its explanation", b"second-phase-leaks.oom:16: leak: " in told.messages, True)
+        self.expect("all lines", len(told.lines()), 5)
 
     def try_log(self) -> None:
         """Whether one log has what was found in all scripts, by the rules that it names, and whether the lines are those without it."""
@@ -240,8 +232,7 @@ class ForCI(Trials):
             for flags in FLAGS:
                 ran = self.run("sweep", *flags, script)
                 told = self.call(*flags, "--parts", "3", script, tool=PARTS)
-                wanted = ran.output.decode().splitlines(), ran.status
-                self.expect(f"{script.name} {' '.join(flags)} in parts", (told.lines, told.status), wanted)
+                self.expect(f"{script.name} {' '.join(flags)} in parts", (told.output, told.status), (ran.output, ran.status))
         self.expect("no parts", self.call("--parts", "0", scripts[0], tool=PARTS).status, COMMAND_LINE)
 
     def try_words(self) -> None:
@@ -259,12 +250,9 @@ class ForCI(Trials):
 def try_examples_for_ci(words: list[str]) -> int:
     """Tries `examples/ci/check-folder` on the examples, and on a copy of some of them with faults; and `examples/ci/sweep-parts`.
 
-        ./tools/dev ci-examples             tries it; the last line is `N passed, M failed`
-        ./tools/dev ci-examples --write     writes the required lengths of all examples to examples/ci/required-lengths.txt
-
-    The required lengths of all examples must be those of that file. In the copy one script is missing, one is rejected, one needs a longer
-    heap than it did, one is cut, and one is new: each must have its line, and the whole its status. One log must have what was found in
-    all. Of some examples, and of scripts without a sweep, `sweep-parts` must print what the whole sweep does, with the same status.
+    The required lengths of all examples must be those of examples/ci/required-lengths.txt, into which --write writes them. Each fault of
+    the copy must have its line, and the whole its status. One log must have what was found in all. Of some examples, and of scripts
+    without a sweep, `sweep-parts` must print what the whole sweep does, with the same status.
     """
     parser = program_parser(try_examples_for_ci.__doc__)
     parser.add_argument("--write", action="store_true", help="write the required lengths of the examples")

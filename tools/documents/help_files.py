@@ -40,8 +40,7 @@ NAMED = re.compile(r"(?:docs|examples)/[\w-]+\.\w+")
 
 
 class Option(NamedTuple):
-    """An option: its letter, if it has one, its name, what its value is called, if it takes one, and what it does."""
-
+    # none has a letter but those of all commands, and a flag has no value
     letter: str
     name: str
     value: str
@@ -87,7 +86,6 @@ def help_of(ask: Callable[..., str]) -> Told:
 
 
 def help_in(about: str, text: str) -> Help:
-    """What a help says of what does this."""
     paragraphs = text.partition("\nUsage: ")[0].strip().split("\n\n")
     texts = [it for it in paragraphs if it not in ("", about) and not it.startswith((EXAMPLE, "Exit status: "))]
     examples = [it.removeprefix(EXAMPLE) for it in text.splitlines() if it.startswith(EXAMPLE)]
@@ -196,7 +194,6 @@ def main(words: list[str]) -> int:
     told = help_of(lambda command="": words_of_help(program, command, WIDE))
     for name, wanted, found in compared(told, read(), (DOCS / "REPORTS.md").read_text(encoding="utf-8")):
         difference = list(unified_diff(wanted, found, "wanted", name, n=0, lineterm=""))
-        tally.add(len(wanted) if not difference else 0, 0)
         tally.check(bool(wanted) and not difference, "\n".join(difference) or f"{name}: nothing to compare")
     for fault in width_faults(program, [it for it in told if it != "help"]):
         tally.check(False, fault)

@@ -36,12 +36,11 @@ from pathlib import Path
 from typing import NamedTuple, NoReturn
 
 from tools.common import ROOT, Tally, answer_of, program_parser
-from tools.crates import FUNCTION_HEAD, Crates
+from tools.crates import Crates
 from tools.edits.verdicts import number_of_open
-from tools.edits.wrong_body_edits import MUST_FAIL, WRONG_BODIES, WrittenEdit, written_edits
+from tools.edits.wrong_body_edits import HEAD, MUST_FAIL, WRONG_BODIES, WrittenEdit, written_edits
 from tools.worked_cases import case_called
 
-HEAD = re.compile(FUNCTION_HEAD + r"(\w+)")
 IMPL = re.compile(r"(?:impl|pub trait|trait)\b(?:<[^{]*?>)? (?:[^{]*? for )?(?:\w+::)*(\w+)")
 CLAUSE = re.compile(r" *(requires|ensures)(?: (\w+))? \{")
 PROMISE = re.compile(r"`(\w+)::((?:\w+::)*)(\w+)`: ((?:`\w+`(?:, )?)+)")
@@ -113,7 +112,7 @@ def quote(words: str) -> str:
 
 
 def definition_in(text: str, name: str) -> str:
-    """A definition with its clauses, which begin with its name alone; lines that are indented or close a bracket go on with what is above."""
+    """A definition with its clauses, which begin with its name alone; indented lines and closing brackets go on with what is above."""
     first = re.compile(rf"((?:(?:abbrev|pub|unfoldable|record|module|data) )*){re.escape(name)}(?![^\s(){{}}\[\],;.])")
     found, is_part = list[list[str]](), False
     for line in filter(str.strip, without_comments(text).splitlines()):
@@ -153,7 +152,7 @@ def files(pattern: str) -> str:
 
 def laws(words: str) -> str:
     found = [it for name in words.split() for it in functions_in(text_of(name)) if it.has_contract()]
-    return table("Law | What it says", ((f"`{it.name}`", first_sentence(it.about)) for it in found))
+    return table("Law | What it says", ((f"`{it.name}`", first_paragraph(it.about)) for it in found))
 
 
 def bodies(words: str) -> str:
@@ -217,6 +216,11 @@ def about(crate: str) -> str:
     return first_sentence(" ".join(it[4:] for it in path.read_text(encoding="utf-8").splitlines() if it.startswith("//!")))
 
 
+def first_paragraph(text: str) -> str:
+    """The first paragraph of a comment, as a cell of a table."""
+    return text.split("  ")[0].rstrip(".").replace("|", "\\|")
+
+
 def first_sentence(text: str) -> str:
     """The first sentence of a comment, as a cell of a table."""
     return re.split(r"(?<=[.:]) (?=[A-Z`])|  ", text)[0].rstrip(".:").replace("|", "\\|")
@@ -240,7 +244,6 @@ def text_of(name: str) -> str:
 
 
 def missing(what: str) -> NoReturn:
-    """Says what a block names that isn't there."""
     raise LookupError(f"there is no {what}")
 
 

@@ -4,8 +4,7 @@ The pictures of all examples, and of some more scripts, are compared with the re
 docs/pictures, and must be those that the program draws, byte for byte; --write writes them anew. These are the pictures that pages show,
 and some of other kinds. A file of scripts says which shapes their pictures must have (pictured-scripts.txt), and a table how many steps
 their columns are. Each picture must be well-formed XML of a few elements, and the report, the messages and the status beside it those
-without a picture. Where it can't be written, no file may be another than before. Pictures of long runs must be no
-longer than 5 MiB; how long they are, and how many seconds they took, is printed.
+without a picture. Where it can't be written, no file may be another than before. Pictures of long runs must be no longer than 5 MiB.
 """
 
 import os
@@ -13,7 +12,6 @@ import re
 import resource
 import signal
 import tempfile
-import time
 import xml.etree.ElementTree as ET
 from pathlib import Path
 from typing import Any
@@ -45,14 +43,9 @@ OLD = "<svg>old</svg>\n"
 KEPT = DOCS / "pictures"
 MOST_BYTES = 5 << 20
 
-# the examples whose pictures are kept beside those that pages show, and the kind that each is of
-KINDS = {
-    "clean-up-fails": "two attempts that fail",
-    "double-delete": "a panic, with objects, TRAPs and cleanup items",
-    "fallback-leaks": "a rate, and cells too low to have a frame",
-    "hole-reused": "a cell that moves",
-    "test-loop": "marks, and attempts that the script makes fail",
-}
+# the examples whose pictures are kept beside those that pages show: with two attempts that fail; a panic, objects, TRAPs and cleanup items;
+# a rate, and cells too low to have a frame; a cell that moves; marks, and attempts that the script makes fail
+KINDS = {"clean-up-fails", "double-delete", "fallback-leaks", "hole-reused", "test-loop"}
 SHOWN = re.compile(r"!\[[^]]*\]\([./\w]*pictures/([^)]*)\.svg\)")
 
 # the examples that show nothing where a single attempt fails are drawn in another way, and so are those with their mistakes mended
@@ -181,13 +174,13 @@ class Pictures(Trials):
         """The picture of a script in a file, which must hold what the reports of its runs say."""
         picture = self.draw(name, command, *words, name)
         if picture:
-            faults = list(faults_of(picture, command, lambda words: self.run(*words, name).output.decode().splitlines()))
+            faults = list(faults_of(picture, command, lambda words: self.run(*words, name).lines()))
             self.check(not faults, "\n".join(f"{name}: {it}" for it in faults))
         return picture
 
     def check_examples(self, is_writing: bool) -> None:
         """The pictures of all examples, of which those are kept that pages show or that are of a kind of their own."""
-        kept = {name for page in pages() for name in SHOWN.findall(page.read_text(encoding="utf-8"))} | set(KINDS)
+        kept = {name for page in pages() for name in SHOWN.findall(page.read_text(encoding="utf-8"))} | KINDS
         for file in examples():
             words = OTHERWISE.get(file.stem.removesuffix("-mended"), ["check"])
             picture, held = self.compared(str(file.relative_to(ROOT)), *words), KEPT / f"{file.stem}.svg"
@@ -243,10 +236,7 @@ class Pictures(Trials):
             found = re.findall(r"Each column is (\d+) steps", picture.text) if picture else []
             self.check(found == [str(steps)] * (steps > 1), f"{last} steps: columns of {found}, not {steps}")
         for name, script in LONG.items():
-            start = time.monotonic()
-            if picture := self.draw(name, "run", "--budget", "1000000", script=script):
-                seconds = time.monotonic() - start
-                print(f"{name}: {len(picture.text.encode())} bytes, {seconds:.1f} s with a run beside it", flush=True)
+            self.draw(name, "run", "--budget", "1000000", script=script)
 
 
 def main(words: list[str]) -> int:

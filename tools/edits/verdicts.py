@@ -43,8 +43,7 @@ def logic_in(said: str) -> str:
 
 
 class Verdict(NamedTuple):
-    """That so many wrong bodies were disproved on a day, by what has this checksum."""
-
+    # how many wrong bodies were disproved
     count: int
     day: str
     checksum: str

@@ -49,9 +49,8 @@ class WrongBody(NamedTuple):
 
 @dataclass(frozen=True)
 class Edit:
-    """A wrong body: the function that the prover must disprove, and what to change."""
-
     label: str
+    # the function that the prover must disprove
     function: str
     # further ones that it must disprove as well, of a change that reaches beyond bodies
     others: tuple[str, ...]

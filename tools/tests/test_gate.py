@@ -64,13 +64,11 @@ def the_gate() -> ModuleType:
     return gate
 
 
-class Heard(unittest.TestCase):
+class OfTheGate(unittest.TestCase):
     def setUp(self) -> None:
         self.gate = the_gate()
         self.said = self.enterContext(contextlib.redirect_stdout(io.StringIO()))
 
-
-class WhatCounts(Heard):
     def test_checks(self) -> None:
         tally = Tally()
         for holds in (True, False, True):
@@ -101,8 +99,6 @@ class WhatCounts(Heard):
             checked = self.gate.check("tests", [sys.executable, "-c", f"print({said!r})"], unfit=self.gate.UNTRIED)
             self.assertEqual(checked, Tally(*counts))
 
-
-class WhatIsRun(Heard):
     def test_each_tool_is_a_command(self) -> None:
         with patch.multiple(self.gate, tally=DEFAULT, check=DEFAULT) as ran:
             for it in ran.values():
@@ -161,8 +157,6 @@ class WhatIsRun(Heard):
         self.assertEqual(said.status, 1)
         self.assertIn("no C compiler", said.messages)
 
-
-class RunsOfTools(Heard):
     def run_all(self, *tools: ToolRun, lanes: int = 2) -> tuple[str, dict[str, Tally]]:
         """What is printed where these are run, and what each counts as."""
         self.runs = ToolRuns()
@@ -176,8 +170,6 @@ class RunsOfTools(Heard):
         for block in ("== right\none\n2 passed, 0 failed\n", "== wrong\ntwo\n4 passed, 3 failed\n", "== silent\n"):
             self.assertIn(block, said)
         self.assertEqual(tallies, {"right": Tally(2, 0), "wrong": Tally(4, 3), "silent": Tally(0, 1), "late": Tally(2, 1)})
-        _, tallies = self.run_all(*(ToolRun((it,), is_one=True) for it in ("right", "wrong")))
-        self.assertEqual(tallies, {"right": Tally(1, 0), "wrong": Tally(0, 1)})
 
     def test_they_run_side_by_side(self) -> None:
         with tempfile.TemporaryDirectory() as room:

@@ -5,7 +5,6 @@ line on, the rule holds that fits soonest, and of those that fit at the same pla
 
 import json
 import re
-import tempfile
 import unittest
 from pathlib import Path
 from typing import Any
@@ -16,6 +15,7 @@ from tools.documents.editors import CONFIGURATION, EDITORS, INDENT, SCOPES, VIM,
 from tools.door import said_by
 from tools.language import SOURCE, Line, line_of, lines_by_kind, lines_in, words_of_roles
 from tools.terms import BLOCKS, CONDITIONS, OVERLOADED, STATEMENTS
+from tools.tests import InRoom
 from tools.worked_cases import Block, Case, Group
 
 # the lines that `terms.py` reads by themselves
@@ -237,16 +237,10 @@ CASES = [
 ]
 
 
-class OfTheorems(unittest.TestCase):
-    def setUp(self) -> None:
-        folder = tempfile.TemporaryDirectory()
-        self.addCleanup(folder.cleanup)
-        self.room = Path(folder.name)
-        (self.room / "some").mkdir()
-
+class OfTheorems(InRoom):
     def said(self, script: str, report: str, words: str, *more: str) -> tuple[int, str]:
         case = Case("plain.run", "some/part", script.encode(), words.split(), report.encode(), None, 0, None)
-        Group(case.group, self.room / "some/part.cases", [], [Block(0, "plain", case.script, [case])]).write()
+        Group(case.group, self.put("some/part.cases", ""), [], [Block(0, "plain", case.script, [case])]).write()
         status, said, messages = said_by("theorems", "--in", self.room, "--out", self.room, *more)
         return status, said + messages
 

@@ -2,11 +2,8 @@
 completions differ from the help, and what bash completes by its file."""
 
 import re
-import stat
 import subprocess
 import sys
-import tempfile
-import unittest
 from pathlib import Path
 from unittest.mock import patch
 
@@ -15,6 +12,7 @@ from tools.common import DOCS
 from tools.documents.help_files import BASH, FISH, MAN_PAGE, ZSH, compared, help_of, read, width_faults
 from tools.documents.pages import MEASURED, pages, sentences
 from tools.door import Said, said_by
+from tools.tests import InRoom
 from tools.worked_cases import cases_of
 
 SWEEPS, LAWS = "crates/wb_runs/specs/Sweeps.antt", "crates/wb_runs/src/set_laws.rt"
@@ -84,13 +82,9 @@ RUNS = (
 MEASURED_PAGE = "Before.\n\n<!-- measured bench/run -->\nold\n<!-- end -->\n\n<!-- measured bench/run --growth -->\nother\n<!-- end -->\n"
 
 
-class OfPages(unittest.TestCase):
-    def setUp(self) -> None:
-        folder = Path(self.enterContext(tempfile.TemporaryDirectory()))
-        self.page, self.program = folder / "page.md", folder / "program"
-
+class OfPages(InRoom):
     def said(self, text: str, *words: str | Path) -> Said:
-        self.page.write_text(text, encoding="utf-8")
+        self.page = self.put("page.md", text)
         return said_by("pages", *words, self.page)
 
     def assert_stale(self, text: str, fault: str, *words: str | Path) -> None:
@@ -112,9 +106,7 @@ class OfPages(unittest.TestCase):
             self.assert_stale(text, fault)
 
     def test_runs(self) -> None:
-        self.program.write_text(PROGRAM, encoding="utf-8")
-        self.program.chmod(0o755)
-        how = ("--runs", "--program", self.program)
+        how = ("--runs", "--program", self.put("program", PROGRAM))
         for right in (RUNS, RUNS.replace("check\nscript\n", "..\n")):
             self.assertEqual(self.said(right, *how).status, 0, right)
         self.assert_stale(RUNS.replace("run 1", "run 0"), "check: the status is 1", *how)
@@ -178,15 +170,12 @@ def unbroken(text: str) -> str:
     return joined.replace("\nexamples/", " examples/")
 
 
-class Compared(unittest.TestCase):
+class OfHelp(InRoom):
     def test_the_width(self) -> None:
-        with tempfile.TemporaryDirectory() as room:
-            program = Path(room, "program")
-            for old, new in {"": "", **BREAKS}.items():
-                self.assertIn(old, BROKEN)
-                program.write_text(f"#!/usr/bin/env -S python3 -I\n{BROKEN.replace(old, new)}", encoding="ascii")
-                program.chmod(stat.S_IRWXU)
-                self.assertEqual(bool(list(width_faults(program, ["run"]))), bool(old), new)
+        for old, new in {"": "", **BREAKS}.items():
+            self.assertIn(old, BROKEN)
+            program = self.put("program", f"#!/usr/bin/env -S python3 -I\n{BROKEN.replace(old, new)}")
+            self.assertEqual(bool(list(width_faults(program, ["run"]))), bool(old), new)
 
     def test_files_that_differ(self) -> None:
         asked = {tuple(it.args): unbroken((it.stderr or b"").decode()) for it in cases_of("command-line/help")}
@@ -205,14 +194,12 @@ class Compared(unittest.TestCase):
                     self.assertNotEqual(differing(texts | {file: texts[file].replace(old, new)}), [])
         self.assertNotEqual(differing(texts, page.replace("| 6 | the command line", "| 6 | words")), [])
 
-
-class InBash(unittest.TestCase):
-    def test_completions(self) -> None:
+    def test_completions_in_bash(self) -> None:
         call = 'source "$1"; shift; COMP_WORDS=("$@"); COMP_CWORD=$(($# - 1)); _workbench; printf "%s\\n" "${COMPREPLY[@]}"'
+        for name in ("script.oom", "picture.svg", "log.sarif", "notes.txt"):
+            self.put(name, "")
         for words, wanted in COMPLETED.items():
-            with self.subTest(words=words), tempfile.TemporaryDirectory() as room:
-                for name in ("script.oom", "picture.svg", "log.sarif", "notes.txt"):
-                    Path(room, name).touch()
+            with self.subTest(words=words):
                 shell = ["bash", "--norc", "-c", call, "bash", str(BASH), "workbench", *words.split(" ")]
-                ran = subprocess.run(shell, cwd=room, capture_output=True, text=True, check=True)
+                ran = subprocess.run(shell, cwd=self.room, capture_output=True, text=True, check=True)
                 self.assertEqual((sorted(ran.stdout.split()), ran.stderr), (wanted.split(), ""))

@@ -168,7 +168,7 @@ class NoMemory(unittest.TestCase):
                 self.assertEqual(len(differences(Crates(Path(folder)), kept)), count, listed)
 
 
-SINGLE, RATES, PAIRS, LENGTHS, SETS = KINDS
+SINGLE, RATES, PAIRS, LENGTHS, SETS, RUN, _ = KINDS
 # what a line says besides: how much is done, and the time left
 LEFT = ", 22% done, 7 s left"
 
@@ -183,6 +183,10 @@ def first(many: int, number: int, left: str = LEFT) -> str:
     return f"{many} attempts, attempt {number} of 40 first" + f", none up to {number - 1}" * (number > 1) + left
 
 
+def steps(taken: int) -> str:
+    return f"running, {taken} steps taken"
+
+
 def heap(length: int, percent: int = 99) -> str:
     return f"a heap of {length} bytes, {percent}% of the lengths done"
 
@@ -192,14 +196,17 @@ LINES: list[tuple[str, bool, Kind, list[tuple[float, str]]]] = [
     ("one after another", True, SINGLE, [(2.0, tried(9)), (2.1, tried(12))]),
     ("the first one", True, SINGLE, [(2.0, tried(1))]),
     ("the last one", True, RATES, [(2.5, tried(40, what="rate"))]),
-    ("states", True, PAIRS, [(2.0, "sets of 2 attempts, 1200 states met, nothing with fewer, 1 s"), (2.1, first(2, 2))]),
+    ("states", True, PAIRS, [(2.0, "sets of 2 attempts, 1200 states met, 35 wait, nothing with fewer, 1 s"), (2.1, first(2, 2))]),
     ("shorter heaps", True, LENGTHS, [(2.0, heap(4111)), (2.1, heap(4095))]),
+    ("more steps", True, RUN, [(2.0, steps(8192)), (2.1, steps(12_288))]),
     ("larger sets", True, SETS, [(2.0, first(2, 9, "")), (2.1, first(3, 1))]),
     ("an estimate before larger sets", False, SETS, [(2.0, first(2, 9)), (2.1, first(3, 1))]),
     ("one that shows nothing too many", False, SINGLE, [(2.5, f"attempt 9 of 40, nothing up to 9{LEFT}")]),
     ("no word of what shows nothing", False, SINGLE, [(2.5, f"attempt 9 of 40{LEFT}")]),
     ("a longer heap", False, LENGTHS, [(2.0, heap(4095)), (2.1, heap(4127))]),
     ("another share of the lengths", False, LENGTHS, [(2.0, heap(4095, 98))]),
+    ("fewer steps", False, RUN, [(2.0, steps(8192)), (2.1, steps(4096))]),
+    ("steps at another time", False, RUN, [(2.0, steps(8191))]),
     ("a heap that is none", False, LENGTHS, [(2.0, tried(9))]),
     ("smaller sets", False, SETS, [(2.0, first(3, 1)), (2.1, first(2, 9, ""))]),
     ("nothing done", False, SETS, [(2.0, first(2, 9, ""))]),

@@ -1,13 +1,11 @@
 """Which verdicts on wrong bodies stand after a change, and which of them are open. Nothing is checked."""
 
-import tempfile
-import unittest
-from pathlib import Path
 from unittest.mock import patch
 
 from tools.common import TOOLS
 from tools.door import said_by
 from tools.edits.verdicts import FILE, Verdicts, number_of_open
+from tools.tests import InRoom
 
 KIT = "rattle-kit-0 logic 0"
 LOGIC = "logic 0"
@@ -22,7 +20,7 @@ def files_in(name: str) -> dict[str, str]:
 FILES = files_in("tiny-repository.txt")
 ALL = "high chunk lib twice"
 
-HIGH, LIB, TWICE, CHUNK = "crates/high/src/lib.rt", "crates/low/src/lib.rt", "crates/low/src/twice.rt", "crates/low/src/chunk.rt"
+LIB, TWICE, CHUNK = (f"crates/low/src/{it}.rt" for it in ("lib", "twice", "chunk"))
 HIGH_EDITS, LOW_EDITS = "crates/high/wrong-bodies/lib.edits", "crates/low/wrong-bodies/lib.edits"
 EDIT = "[too-little]\nfunction: low::next\nold:  - n + 1\nnew:  - n\n"
 
@@ -79,91 +77,80 @@ CHANGES: dict[str, list[tuple[str, str, str]]] = {
 }
 
 
-class InRepository(unittest.TestCase):
+class InRepository(InRoom):
     files = FILES
 
     def setUp(self) -> None:
-        self.root = Path(self.enterContext(tempfile.TemporaryDirectory()))
+        super().setUp()
         for name, text in self.files.items():
-            self.write(name, text)
-
-    def write(self, name: str, text: str) -> None:
-        (self.root / name).parent.mkdir(parents=True, exist_ok=True)
-        (self.root / name).write_text(text, encoding="utf-8")
+            self.put(name, text)
 
     def write_lines(self, logic: str = LOGIC, are_valid: bool = True) -> None:
-        verdicts = Verdicts(self.root, logic)
+        verdicts = Verdicts(self.room, logic)
         for crate in ("low", "high"):
             verdicts.write(crate, {it: verdicts.checksum(crate, it) if are_valid else "0" * 64 for it in verdicts.sources(crate)})
 
 
-class TinyRepository(InRepository):
+class WhatStands(InRepository):
     def setUp(self) -> None:
         super().setUp()
         self.write_lines()
 
-    def verdicts(self, logic: str = LOGIC) -> Verdicts:
-        return Verdicts(self.root, logic)
-
     def opened(self, logic: str = LOGIC) -> str:
         """The sources that are open, by the crate or by its source."""
-        verdicts = self.verdicts(logic)
+        verdicts = Verdicts(self.room, logic)
         found = [(crate, it) for crate in ("high", "low") for it in verdicts.open_sources(crate)]
         return " ".join(crate if crate == "high" else source or "none" for crate, source in found)
 
-
-class WhatLinesStand(TinyRepository):
     def test_changes(self) -> None:
         self.assertEqual(self.opened(), "")
         for name, changes in CHANGES.items():
             for old, new, opened in changes:
                 with self.subTest(name, old=old, new=new):
                     self.assertEqual(FILES[name].count(old), 1)
-                    self.write(name, FILES[name].replace(old, new))
+                    self.put(name, FILES[name].replace(old, new))
                     self.assertEqual(self.opened(), opened)
-            self.write(name, FILES[name])
+            self.put(name, FILES[name])
 
     def test_what_else_counts(self) -> None:
         self.assertEqual(self.opened("logic 1"), ALL)
         # a further file, and one of the crate above
-        self.write("crates/lowest/specs/More.antt", "pub two : ℕ\ntwo = 2\n")
+        self.put("crates/lowest/specs/More.antt", "pub two : ℕ\ntwo = 2\n")
         self.assertEqual(self.opened(), ALL)
-        (self.root / "crates/lowest/specs/More.antt").unlink()
-        self.write("crates/high/src/more_laws.rt", "pub fn two_is()\n    ensures { 2 ≡ 2 }\n{}\n")
+        (self.room / "crates/lowest/specs/More.antt").unlink()
+        self.put("crates/high/src/more_laws.rt", "pub fn two_is()\n    ensures { 2 ≡ 2 }\n{}\n")
         self.assertEqual(self.opened(), "high")
-        (self.root / "crates/high/src/more_laws.rt").unlink()
+        (self.room / "crates/high/src/more_laws.rt").unlink()
         # edits in another order, and in another file; of another source they aren't the same edits
         source, *edits = FILES[HIGH_EDITS].replace("=== src/lib.rt", "=== src/lib.rt\n").split("\n\n")
-        self.write(HIGH_EDITS, "\n\n\n".join([source, *reversed(edits)]))
+        self.put(HIGH_EDITS, "\n\n\n".join([source, *reversed(edits)]))
         self.assertEqual(self.opened(), "")
-        (self.root / HIGH_EDITS).unlink()
+        (self.room / HIGH_EDITS).unlink()
         moved = "crates/high/wrong-bodies/further/numbers.edits"
-        self.write(moved, FILES[HIGH_EDITS])
+        self.put(moved, FILES[HIGH_EDITS])
         self.assertEqual(self.opened(), "")
-        self.write(moved, FILES[HIGH_EDITS].replace("lib.rt", "numbers.rt"))
+        self.put(moved, FILES[HIGH_EDITS].replace("lib.rt", "numbers.rt"))
         self.assertEqual(self.opened(), "high")
         # a file of edits less, and one without any
-        self.write(moved, FILES[HIGH_EDITS])
-        (self.root / LOW_EDITS).unlink()
+        self.put(moved, FILES[HIGH_EDITS])
+        (self.room / LOW_EDITS).unlink()
         self.assertEqual(self.opened(), "")
-        self.write(LOW_EDITS, "")
+        self.put(LOW_EDITS, "")
         self.assertEqual(self.opened(), "none")
 
     def test_a_line_in_another_form(self) -> None:
-        lines = (self.root / FILE).read_text(encoding="utf-8")
-        self.write(FILE, lines.replace("high/lib 2 ", "high/lib two "))
+        lines = (self.room / FILE).read_text(encoding="utf-8")
+        self.put(FILE, lines.replace("high/lib 2 ", "high/lib two "))
         self.assertEqual(self.opened(), "high")
 
-
-class WhatIsOpen(TinyRepository):
     def write_days(self, days: dict[str, str]) -> None:
         """Gives sources lines of these days, which don't stand; and those without a day none."""
-        lines = (self.root / FILE).read_text(encoding="utf-8").splitlines()
+        lines = (self.room / FILE).read_text(encoding="utf-8").splitlines()
         kept = [it for it in lines if it.split()[0] not in days]
-        self.write(FILE, "\n".join([*kept, *(f"{name} 1 {day} {'0' * 64}" for name, day in days.items() if day)]))
+        self.put(FILE, "\n".join([*kept, *(f"{name} 1 {day} {'0' * 64}" for name, day in days.items() if day)]))
 
     def list_open(self) -> list[str]:
-        with patch("tools.edits.wrong_bodies.ROOT", self.root), patch("tools.edits.wrong_bodies.version", return_value=LOGIC):
+        with patch("tools.edits.wrong_bodies.ROOT", self.room), patch("tools.edits.wrong_bodies.version", return_value=LOGIC):
             return said_by("wrong-bodies", "--open").output.splitlines()
 
     def test_the_oldest_first(self) -> None:
@@ -173,18 +160,18 @@ class WhatIsOpen(TinyRepository):
         lines += ["  high/lib: 2, last disproved on 2026-11-01", "  low/lib: 1, last disproved on 2026-11-02"]
         self.assertEqual(self.list_open(), lines)
         self.write_days({"high/lib": "2026-11-02", "low/twice": "2026-11-02", "low/chunk": "2026-11-02"})
-        names = [f"{it.crate}/{it.source}" for it in self.verdicts().open_in(["low", "high"])]
+        names = [f"{it.crate}/{it.source}" for it in Verdicts(self.room, LOGIC).open_in(["low", "high"])]
         self.assertEqual(names, ["high/lib", "low/chunk", "low/lib", "low/twice"])
 
     def test_the_number_of_the_readme_is_by_the_toolchain_that_it_names(self) -> None:
         self.write_days({"high/lib": "", "low/lib": ""})
         for said, count in {f"Its logic is proved. Proved with `{KIT}`.": 3, "Its logic is proved.": 5}.items():
-            self.write("README.md", said)
-            with patch("tools.edits.verdicts.ROOT", self.root):
+            self.put("README.md", said)
+            with patch("tools.edits.verdicts.ROOT", self.room):
                 self.assertEqual(number_of_open(), count)
 
     def test_an_edit_that_is_none(self) -> None:
         edits = "crates/low/wrong-bodies/twice.edits"
-        self.write(edits, f"{FILES[edits]}\n{EDIT.replace('too-little', 'gone')}")
+        self.put(edits, f"{FILES[edits]}\n{EDIT.replace('too-little', 'gone')}")
         self.write_lines()
-        self.assertEqual([(it.source, it.count) for it in self.verdicts().open_in(["low"])], [("twice", 2)])
+        self.assertEqual([(it.source, it.count) for it in Verdicts(self.room, LOGIC).open_in(["low"])], [("twice", 2)])

@@ -2,15 +2,15 @@
 
 import os
 import subprocess
-import tempfile
 import unittest
 from dataclasses import replace
 from pathlib import Path
 from unittest.mock import patch
 
-from tools import run_cases, worked_cases
+from tools import crates, run_cases, worked_cases
 from tools.common import NoAnswer
 from tools.door import said_by
+from tools.tests import InRoom
 from tools.worked_cases import Block, Case, CaseError, Group, meaning, read, spelled
 
 GROUP = """# Some cases.
@@ -173,23 +173,18 @@ class OfTexts(unittest.TestCase):
                 meaning(line)
 
 
-class OfCases(unittest.TestCase):
+class OfCases(InRoom):
     def setUp(self) -> None:
-        folder = Path(self.enterContext(tempfile.TemporaryDirectory()))
-        self.program, self.cases = folder / "workbench", folder / "cases"
+        super().setUp()
+        self.program, self.file = self.put("workbench", PROGRAM), self.room / "cases/some.cases"
+        self.cases = self.file.parent
         self.cases.mkdir()
-        self.file = self.cases / "some.cases"
-        self.is_program(PROGRAM)
-
-    def is_program(self, text: str) -> None:
-        self.program.write_text(text, encoding="utf-8")
-        self.program.chmod(0o755)
 
     def reads(self, text: str) -> Group:
         self.file.write_bytes(text.encode())
         return read(self.file, "some")
 
-    def put(self, *cases: Case, table: str | None = None) -> None:
+    def put_cases(self, *cases: Case, table: str | None = None) -> None:
         """Makes these the cases of the group, each with a script of its own, and a table."""
         blocks = [Block(0, f"script-{at}", it.script, [it]) for at, it in enumerate(cases)]
         tables = [Block(0, "table", table=table.splitlines())] if table is not None else []
@@ -204,8 +199,6 @@ class OfCases(unittest.TestCase):
         self.assertEqual(messages, "")
         return status, said
 
-
-class OfGroups(OfCases):
     def test_each_part(self) -> None:
         group = self.reads(GROUP)
         self.assertEqual((group.head, group.cases(), group.text()), (["# Some cases."], [READ], GROUP))
@@ -218,7 +211,7 @@ class OfGroups(OfCases):
             replace(READ, name="long.run", stdout=None, contains=["first: print 1", "line: --- a", "last: \xe9 "]),
             replace(READ, name="bytes.run", script=b"\n--- stderr\n$ a\n\xff\r", stdout=b"ended", stderr=b"\n"),
         ]
-        self.put(*cases)
+        self.put_cases(*cases)
         self.assertEqual(self.held(), cases)
 
     def test_a_script_with_several_commands(self) -> None:
@@ -234,27 +227,26 @@ class OfGroups(OfCases):
         with self.assertRaisesRegex(CaseError, "the last line has no line feed"):
             self.reads(GROUP.removesuffix("\n"))
 
-
-class WhatIsSaid(OfCases):
     def test_right_answers(self) -> None:
         contains = ["first: ended", "line: leaks 1", "last: steps 4"]
         others = [replace(RIGHT, stderr=None, args=[]), Case("", "", b"", [], b"", None, 6, None)]
         others += [replace(RIGHT, script=b"1\xff\r", stdout=b"\xff\r"), replace(RIGHT, stdout=None, contains=contains)]
-        self.put(RIGHT, *(replace(it, name=f"other-{at}") for at, it in enumerate(others)), table="answer: 0 a\n    0a\\n\n    0a\\n\n")
+        named = (replace(it, name=f"other-{at}") for at, it in enumerate(others))
+        self.put_cases(RIGHT, *named, table="answer: 0 a\n    0a\\n\n    0a\\n\n")
         self.assertEqual(self.said(), (0, "7 passed, 0 failed\n"))
 
     def test_differences(self) -> None:
-        self.put(WRONG)
+        self.put_cases(WRONG)
         self.assertEqual(self.said(), (1, f"some/one.run: another answer:{DIFFERENCE}0 passed, 1 failed\n"))
         self.assertEqual(self.held(), [WRONG])
-        self.put(replace(RIGHT, stdout=b"leak\n" * 200 + b"ended\nleaks 1\nsteps 4\n"))
+        self.put_cases(replace(RIGHT, stdout=b"leak\n" * 200 + b"ended\nleaks 1\nsteps 4\n"))
         lines = self.said()[1].splitlines()
         self.assertEqual((lines[-2:], len(lines)), (["and 107 further lines", "0 passed, 1 failed"], 103))
 
     def test_each_part_of_an_answer(self) -> None:
         for wrong, line in WRONG_PARTS:
             with self.subTest(line):
-                self.put(wrong)
+                self.put_cases(wrong)
                 status, said = self.said()
                 self.assertEqual((status, said.splitlines()[-1]), (1, "0 passed, 1 failed"))
                 self.assertIn(line, said.removeprefix("some/one.run: ").splitlines())
@@ -262,21 +254,21 @@ class WhatIsSaid(OfCases):
     def test_rows_of_tables(self) -> None:
         for table, part in TABLES.items():
             with self.subTest(table):
-                self.put(table=table)
+                self.put_cases(table=table)
                 status, said = self.said()
                 self.assertIn(part, said)
                 self.assertEqual(status == 0, ", 0 failed" in part)
 
     def test_what_cannot_be_read(self) -> None:
-        self.put(RIGHT)
+        self.put_cases(RIGHT)
         for name in ("two.cases", "three.case", "notes"):
-            (self.cases / name).write_text("-- script --\n", encoding="ascii")
+            self.put(f"cases/{name}", "-- script --\n")
         status, said = self.said()
         self.assertEqual((status, said.splitlines()[-1], said.count(": it is no group\n")), (1, "1 passed, 3 failed", 2))
         self.assertRegex(said, "two.cases: .* is no comment\n")
 
     def test_a_program_that_does_not_end(self) -> None:
-        self.put(RIGHT, table="answer: 0\n    1\n    2\n")
+        self.put_cases(RIGHT, table="answer: 0\n    1\n    2\n")
         with patch.object(run_cases, "answer_of", side_effect=NoAnswer("no answer within 1 s")):
             status, said = self.said()
         places = ["some/one.run", f"{self.file}:15", f"{self.file}:16"]
@@ -284,7 +276,7 @@ class WhatIsSaid(OfCases):
 
     def test_names(self) -> None:
         self.assertEqual(self.said(), (1, "0 passed, 0 failed\n"))
-        self.put(replace(WRONG, name="two.run"), RIGHT, table="answer: 0 a\n    0a\\n\n    0a\\n\n")
+        self.put_cases(replace(WRONG, name="two.run"), RIGHT, table="answer: 0 a\n    0a\\n\n    0a\\n\n")
         for name, passed in (("one.run", 1), ("some/one.run", 1), ("script-1", 1), ("some/script-1", 1), ("table", 2), ("some/table", 2)):
             self.assertEqual(self.said(name), (0, f"{passed} passed, 0 failed\n"))
         for name in ("some", "cases/some.cases", "some/", ""):
@@ -294,26 +286,24 @@ class WhatIsSaid(OfCases):
     def test_what_is_shown(self) -> None:
         for script in (b"", b"0", b"1a\n", b"1a\nEND\nb\n", b"2\xff\\%s'\r\t\n", b"0" + bytes(range(256))):
             with self.subTest(script):
-                self.put(replace(RIGHT, script=script, args=["run", "a b", "'", "#"]))
+                self.put_cases(replace(RIGHT, script=script, args=["run", "a b", "'", "#"]))
                 status, said = self.said("--show")
                 ran = subprocess.run(["sh", "-c", said], cwd=self.program.parent, capture_output=True)
                 self.assertEqual((status, ran.stdout, ran.stderr), (0, script[1:], b"run a b ' #"))
                 self.assertIn("# some/one.run: status 1\n", said)
 
     def test_messages_that_are_lost(self) -> None:
-        self.put(RIGHT, replace(RIGHT, name="two.run", stderr=None))
+        self.put_cases(RIGHT, replace(RIGHT, name="two.run", stderr=None))
         with patch.object(worked_cases, "CASES", self.cases):
-            self.is_program(PROGRAM.replace("printf", "true"))
+            self.put("workbench", PROGRAM.replace("printf", "true"))
             self.assertEqual(self.said(command="lost-messages"), (0, "1 passed, 0 failed\n"))
-            self.is_program(PROGRAM.replace("cat", "[ ! -e /dev/fd/2 ] || cat"))
+            self.put("workbench", PROGRAM.replace("cat", "[ ! -e /dev/fd/2 ] || cat"))
             status, said = self.said(command="lost-messages")
         self.assertEqual((status, said.splitlines()[-1]), (1, "0 passed, 1 failed"))
         self.assertIn("some/one.run: standard error closed: another answer:\n", said)
 
-
-class WhatIsWritten(OfCases):
-    def test_an_answer(self) -> None:
-        self.put(WRONG, replace(RIGHT, name="two.run", stderr=None))
+    def test_what_is_written(self) -> None:
+        self.put_cases(WRONG, replace(RIGHT, name="two.run", stderr=None))
         other = self.held()[1]
         self.assertEqual(self.said("--write"), (0, f"some/one.run: written: another answer:{DIFFERENCE}2 passed, 0 failed\n"))
         self.assertEqual(self.held(), [RIGHT, other])
@@ -321,13 +311,13 @@ class WhatIsWritten(OfCases):
 
     def test_answers_of_all_bytes(self) -> None:
         script = b"1" + bytes(range(256)) * 2
-        self.put(replace(RIGHT, script=script))
+        self.put_cases(replace(RIGHT, script=script))
         self.assertEqual(self.said("--write", "one.run")[0], 0)
         self.assertEqual(self.held(), [replace(RIGHT, script=script, stdout=script[1:])])
 
     def test_a_program_that_is_older_than_its_sources(self) -> None:
-        self.put(WRONG)
-        with patch.object(run_cases, "PROGRAM", self.program):
+        self.put_cases(WRONG)
+        with patch.object(run_cases, "PROGRAM", self.program), patch.object(crates, "PROGRAM", self.program):
             os.utime(self.program, (0, 0))
             said = said_by("cases", "--program", self.program, "--in", self.cases)
             self.assertEqual((said.status, said.output), (1, f"some/one.run: another answer:{DIFFERENCE}0 passed, 1 failed\n"))
@@ -337,7 +327,7 @@ class WhatIsWritten(OfCases):
         self.assertIn(": ./build comes before --write\n", messages)
 
     def test_what_is_never_written(self) -> None:
-        self.put(replace(RIGHT, stdout=None, contains=["last: ended"]), table="answer: 0 a\n    1a\\n\n")
+        self.put_cases(replace(RIGHT, stdout=None, contains=["last: ended"]), table="answer: 0 a\n    1a\\n\n")
         kept = self.file.read_bytes()
         self.assertEqual(self.said("--write")[1].splitlines()[-1], "0 passed, 2 failed")
         self.assertEqual(self.file.read_bytes(), kept)

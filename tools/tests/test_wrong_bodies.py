@@ -8,10 +8,7 @@ import os
 import shutil
 import signal
 import subprocess
-import tempfile
 import time
-import unittest
-from pathlib import Path
 from unittest.mock import patch
 
 from tools.common import TOOLS, Tally
@@ -47,13 +44,6 @@ only=4 proved=1
 """
 
 
-class WhatIsRead(unittest.TestCase):
-    def test_disproved_is_what_has_an_open_goal(self) -> None:
-        said = {name: it.text for name, it in read_verdict(PRINTED).functions.items()}
-        self.assertEqual(said, {"low::next": "disproved", "low::after_next": "", "low::put_next": "", "low::zero": "PROVED"})
-        self.assertEqual([is_disproof(it) for it in ("disproved", "disproved, by a", "disproved only", "")], [True, True, False, False])
-
-
 class SmallRepository(InRepository):
     """A repository of two crates, one below the other, with these tools in it."""
 
@@ -61,21 +51,32 @@ class SmallRepository(InRepository):
 
     def setUp(self) -> None:
         super().setUp()
-        shutil.copytree(TOOLS, self.root / "tools", ignore=shutil.ignore_patterns("tests", "__pycache__"))
-        (self.root / "kit/rt").chmod(0o755)
+        shutil.copytree(TOOLS, self.room / "tools", ignore=shutil.ignore_patterns("tests", "__pycache__"))
 
     def add(self, name: str, text: str) -> None:
-        self.write(name, (self.root / name).read_text(encoding="utf-8") + text)
+        self.put(name, (self.room / name).read_text(encoding="utf-8") + text)
 
     def try_bodies(self, *words: str, env: dict[str, str] | None = None) -> tuple[list[str], int]:
         """What the tool prints, or else the last line of what is wrong with these words, and its status."""
-        ran = subprocess.run([self.root / "tools/dev", "wrong-bodies", "--jobs", "1", *words], capture_output=True, text=True, env=env)
+        ran = subprocess.run([self.room / "tools/dev", "wrong-bodies", "--jobs", "1", *words], capture_output=True, text=True, env=env)
         return ran.stdout.splitlines() or ran.stderr.splitlines()[-1:], ran.returncode
 
     def standing(self, logic: str = LOGIC) -> list[str]:
         """The sources whose lines stand."""
-        verdicts = Verdicts(self.root, logic)
+        verdicts = Verdicts(self.room, logic)
         return [f"{crate}/{it}" for crate in ("low", "high") for it in verdicts.sources(crate) if verdicts.stands(crate, it)]
+
+    def write_source(self, crate: str, source: str, *names: str) -> None:
+        """Adds a source with a wrong body for each of its functions, in the place of the repository's own."""
+        for it in (LOW_EDITS, HIGH_EDITS):
+            (self.room / it).unlink(missing_ok=True)
+        functions = (f"/// A number.\npub fn {it}() -> u32\n{{\n    number({at})\n}}\n" for at, it in enumerate(names, 1))
+        edits = [f"[{it}]\nfunction: {crate}::{source}::{it}\nold: number({at})\nnew: number(0)\n" for at, it in enumerate(names, 1)]
+        self.put(f"crates/{crate}/src/{source}.rt", "\n".join(functions))
+        self.put(f"crates/{crate}/wrong-bodies/{source}.edits", "\n".join([f"=== src/{source}.rt", *edits]))
+
+    def choice(self, sources: dict[str, list[str]], picked: list[str], seed: str = "a commit") -> Choice:
+        return Choice(Verdicts(self.room, LOGIC), sources, picked, seed, [WRONG_BODIES], [])
 
 
 class ByTheToolchain(SmallRepository):
@@ -107,36 +108,17 @@ class ByTheToolchain(SmallRepository):
 
     def test_each_function_and_each_clause_must_be_disproved(self) -> None:
         self.add(LOW_EDITS, "".join(OF_LOW))
-        self.write("crates/low/wrong-bodies/further.edits", self.files[LOW_EDITS].replace("too-little", "all"))
+        self.put("crates/low/wrong-bodies/further.edits", self.files[LOW_EDITS].replace("too-little", "all"))
         twice = "low/all: BAD EDIT: another edit of the crate has its name"
         lines, status = self.try_bodies("low")
         self.assertEqual(sorted(lines[:-1]), sorted(["low/too-little: disproved", twice, *list(OF_LOW.values())[:-1]]))
-        self.assertEqual((lines[-1], status, (self.root / FILE).exists()), ("3 passed, 3 failed", 1, False))
-        (self.root / "crates/low/wrong-bodies/further.edits").unlink()
-        lines, status = self.try_bodies("low", "--only", "all", "--logs", str(self.root / "logs"))
-        self.assertEqual((lines, status, (self.root / FILE).exists()), (["low/all: disproved", "1 passed, 0 failed"], 0, False))
-        self.assertIn("it is not proved that", (self.root / "logs/low.log").read_text(encoding="utf-8"))
+        self.assertEqual((lines[-1], status, (self.room / FILE).exists()), ("3 passed, 3 failed", 1, False))
+        (self.room / "crates/low/wrong-bodies/further.edits").unlink()
+        lines, status = self.try_bodies("low", "--only", "all")
+        self.assertEqual((lines, status, (self.room / FILE).exists()), (["low/all: disproved", "1 passed, 0 failed"], 0, False))
 
 
-class WithSources(SmallRepository):
-    """The repository with sources that are added, with a wrong body for each of their functions, in the place of its own."""
-
-    def setUp(self) -> None:
-        super().setUp()
-        for it in (LOW_EDITS, HIGH_EDITS):
-            (self.root / it).unlink()
-
-    def write_source(self, crate: str, source: str, *names: str) -> None:
-        functions = (f"/// A number.\npub fn {it}() -> u32\n{{\n    number({at})\n}}\n" for at, it in enumerate(names, 1))
-        edits = [f"[{it}]\nfunction: {crate}::{source}::{it}\nold: number({at})\nnew: number(0)\n" for at, it in enumerate(names, 1)]
-        self.write(f"crates/{crate}/src/{source}.rt", "\n".join(functions))
-        self.write(f"crates/{crate}/wrong-bodies/{source}.edits", "\n".join([f"=== src/{source}.rt", *edits]))
-
-    def choice(self, sources: dict[str, list[str]], picked: list[str], seed: str = "a commit") -> Choice:
-        return Choice(Verdicts(self.root, LOGIC), sources, picked, seed, [WRONG_BODIES], [])
-
-
-class WhatIsChosen(WithSources):
+class WhatIsChosen(SmallRepository):
     def setUp(self) -> None:
         super().setUp()
         self.write_source("low", "first", *(f"a{it}" for it in range(2 * AT_ONCE + 1)))
@@ -164,14 +146,14 @@ class WhatIsChosen(WithSources):
         self.assertEqual([it for its in found[::2] for it in its], [*(f"a{it}" for it in range(2 * AT_ONCE + 1)), "c"])
 
 
-class WithinATime(WithSources):
+class WithinATime(SmallRepository):
     """What the tool tries within a time, by a toolchain that only answers."""
 
     def setUp(self) -> None:
         super().setUp()
-        (self.root / "crates/low/out/rlib").mkdir(parents=True)
-        self.tried, self.hanging = self.root / "tried", self.root / "hanging"
-        path = f"{self.root / 'kit'}:{os.environ['PATH']}"
+        (self.room / "crates/low/out/rlib").mkdir(parents=True)
+        self.tried, self.hanging = self.room / "tried", self.room / "hanging"
+        path = f"{self.room / 'kit'}:{os.environ['PATH']}"
         self.environment = {**os.environ, "PATH": path, "TRIED": str(self.tried), "HANGING": str(self.hanging)}
 
     def try_for(self, seconds: float) -> tuple[list[str], int]:
@@ -184,10 +166,10 @@ class WithinATime(WithSources):
         self.write_source("low", "last", "slow")
         self.write_lines(LOGIC, are_valid=False)
         self.write_source("low", "first", "one", "two")
-        day = Verdicts(self.root, LOGIC).read()["low/last"].day
+        day = Verdicts(self.room, LOGIC).read()["low/last"].day
         # the time is over once a check hangs
         with (
-            patch("tools.edits.wrong_bodies.ROOT", self.root),
+            patch("tools.edits.wrong_bodies.ROOT", self.room),
             patch("tools.edits.wrong_bodies.version", return_value=LOGIC),
             patch("tools.edits.trial.kit"),
             patch.dict(os.environ, self.environment),
@@ -240,15 +222,16 @@ class WithinATime(WithSources):
                 self.add("crates/low/src/first.rt", change)
                 return Verdict({"low::first::one": Said("disproved")})
 
-            with (tempfile.TemporaryDirectory() as rooms, patch("tools.edits.trial.kit"), patch("tools.edits.trial.check", check)):
-                trial = Trial(choice.verdicts, Path(rooms), Checks(), choice.sources)
+            with patch("tools.edits.trial.kit"), patch("tools.edits.trial.check", check):
+                rooms = self.put(f"rooms{len(change)}/none", "").parent
+                trial = Trial(choice.verdicts, rooms, Checks(), choice.sources)
                 with contextlib.redirect_stdout(io.StringIO()):
                     trial.judge(choice.whole_batches()[0], 1)
-            self.assertEqual((trial.tally, self.standing(), (self.root / FILE).exists()), (Tally(1, 0), standing, standing != []))
+            self.assertEqual((trial.tally, self.standing(), (self.room / FILE).exists()), (Tally(1, 0), standing, standing != []))
 
     def test_a_signal_ends_what_runs(self) -> None:
         self.write_source("low", "first", "slow")
-        words = [self.root / "tools/dev", "wrong-bodies", "--jobs", "1", "--after-ci", "--minutes", "10"]
+        words = [self.room / "tools/dev", "wrong-bodies", "--jobs", "1", "--after-ci", "--minutes", "10"]
         with subprocess.Popen(words, env=self.environment, stdout=subprocess.PIPE, stderr=subprocess.PIPE) as tool:
             while not self.hung():
                 time.sleep(0.05)
@@ -259,13 +242,13 @@ class WithinATime(WithSources):
 
     def test_a_check_within_its_time(self) -> None:
         begun = time.monotonic()
-        with (self.root / "log").open("w+", encoding="utf-8") as written:
-            Checks(600).run(["echo", "said"], self.root, written)
+        with (self.room / "log").open("w+", encoding="utf-8") as written:
+            Checks(600).run(["echo", "said"], self.room, written)
             for seconds in (0, 1):
                 with self.assertRaises(OutOfTime):
-                    Checks(seconds).run(["sh", "-c", "sleep 600; echo too late"], self.root, written)
+                    Checks(seconds).run(["sh", "-c", "sleep 600; echo too late"], self.room, written)
         self.assertLess(time.monotonic() - begun, 300)
-        self.assertEqual((self.root / "log").read_text(encoding="utf-8"), "said\n")
+        self.assertEqual((self.room / "log").read_text(encoding="utf-8"), "said\n")
 
 
 TWO = """\
@@ -332,7 +315,12 @@ class CrateOfEdits(InRepository):
 
     def setUp(self) -> None:
         super().setUp()
-        self.crate = self.root / "low"
+        self.crate = self.room / "low"
+
+    def test_disproved_is_what_has_an_open_goal(self) -> None:
+        said = {name: it.text for name, it in read_verdict(PRINTED).functions.items()}
+        self.assertEqual(said, {"low::next": "disproved", "low::after_next": "", "low::put_next": "", "low::zero": "PROVED"})
+        self.assertEqual([is_disproof(it) for it in ("disproved", "disproved, by a", "disproved only", "")], [True, True, False, False])
 
     def test_many_of_a_source_by_their_names(self) -> None:
         changes = (("src/deep/wide.rt", "    7", " [longer]"), ("src/narrow.rt", "5", ""))
@@ -341,11 +329,11 @@ class CrateOfEdits(InRepository):
         self.assertEqual(written_edits(self.crate, [WRONG_BODIES]), [both, longer])
 
     def test_one_of_a_file_that_must_fail(self) -> None:
-        self.write("low/must-fail/shorter.edit", MUST)
+        self.put("low/must-fail/shorter.edit", MUST)
         self.assertEqual([it.name for it in written_edits(self.crate, [MUST_FAIL])], ["shorter"])
         self.assertEqual([it.name for it in written_edits(self.crate, [WRONG_BODIES, MUST_FAIL])], ["both-files", "longer", "shorter"])
         # whichever folders are read
-        self.write("low/must-fail/longer.edit", MUST)
+        self.put("low/must-fail/longer.edit", MUST)
         self.assertEqual([it.name for it in written_edits(self.crate, [WRONG_BODIES]) if it.fault], ["longer"])
 
     def test_what_they_make_of_the_sources(self) -> None:
@@ -358,7 +346,7 @@ class CrateOfEdits(InRepository):
     def test_edits_that_say_nothing_of_a_function(self) -> None:
         for name, text, edit, why in BAD:
             with self.subTest(text, name=name):
-                self.write(f"low/wrong-bodies/{name}", text)
+                self.put(f"low/wrong-bodies/{name}", text)
                 bad = read_edits(self.crate, [WRONG_BODIES, MUST_FAIL])[1]
                 self.assertEqual({label: said[: len(why)] for label, said in bad.items()}, {f"low/{edit}": why})
                 (self.crate / "wrong-bodies" / name).unlink()
