@@ -1,4 +1,4 @@
-//! A heap full of equal cells, and rounds of calls over all of them.
+//! A heap full of cells of equal length, and rounds of calls over all cells.
 
 ghost use Rattle.std.specs.Prelude.{◌≡◌, ◌+◌, ◌<◌, ◌≤◌, All};
 ghost use Rattle.wb_heap_model.specs.Row.{headers};
@@ -9,7 +9,7 @@ use wb_basics::limits::CEILING;
 use wb_heap_model::heap::{Kind, Ptr, Shape};
 use wb_rheap::Heap;
 
-/// The length of each cell, in bytes: a header and four words.
+/// The length of each cell, in bytes: a header and four words of payload.
 const LENGTH: u32 = 32;
 /// The length of a cell that fits into no hole, in bytes.
 const LONG: u32 = 96;
@@ -30,7 +30,7 @@ pub(crate) struct Filled {
 }
 
 impl Filled {
-    /// A heap with `count` live cells. Their pointers are added to `cells`, in order of place.
+    /// A heap with `count` live cells. The pointers to these cells are added to `cells`, in order of place.
     pub(crate) fn new(
         alloc: Global,
         count: u32,
@@ -63,14 +63,14 @@ impl Filled {
         let _ = self.heap.free(cell);
     }
 
-    /// Frees every second cell, from the last one down.
+    /// Frees every second cell, beginning with the last pair of cells.
     pub(crate) fn free_every_second(&mut self, cells: &[Ptr]) {
         for pair in (0..cells.len() / 2).rev() {
             self.release(cells[2 * pair]);
         }
     }
 
-    /// Fills the holes again.
+    /// Grants a cell in each hole again.
     pub(crate) fn fill(&mut self, cells: &mut [Ptr]) -> Result<(), AllocError> {
         for pair in 0..cells.len() / 2 {
             cells[2 * pair] = self.grant(LENGTH)?;
@@ -78,7 +78,7 @@ impl Filled {
         Ok(())
     }
 
-    /// Grants a cell above all holes and frees it again, `times` times.
+    /// Grants a cell above all holes and frees the cell again; does this `times` times.
     pub(crate) fn pass_over_holes(&mut self, times: u32) -> Result<(), AllocError> {
         for _ in 0..times {
             let cell = self.grant(LONG)?;
@@ -102,7 +102,7 @@ impl Filled {
         }
     }
 
-    /// Looks up each cell, and returns how many are live.
+    /// Looks up each cell, and returns how many of these cells are live.
     pub(crate) fn look_up(&self, cells: &[Ptr]) -> usize {
         cells
             .iter()
@@ -110,12 +110,12 @@ impl Filled {
             .count()
     }
 
-    /// How many bytes are free below the committed length, and the longest free stretch there, in bytes.
+    /// How many bytes are free below the committed length, and the length of the longest free stretch among them, in bytes.
     pub(crate) fn available(&self) -> (u32, u32) {
         self.heap.available()
     }
 
-    /// How many cells are live, and how many bytes they take together.
+    /// How many cells are live, and how many bytes the live cells take together.
     pub(crate) fn live(&self) -> (u32, u32) {
         self.heap.alloc_size()
     }

@@ -1,7 +1,8 @@
-//! Measures what a call of the heap costs while many cells are live.
+//! Measures how long a call of the heap takes while many cells are live.
 //!
-//! With a word, such as `time`, it prints how many nanoseconds a call takes. Without one it makes a single round of the calls, but for
-//! those above the holes and `available`, and prints how many cells are live, so that the gate can run it.
+//! With a word, such as `time`, the program prints how many nanoseconds each kind of call takes. Without a word, it makes a single round of
+//! the calls and prints how many cells are live. This single round has no calls above the holes, and no call of `available`. So the gate,
+//! which is the script that checks the whole repository, can run the program without a word.
 #![tactic(auto)]
 
 mod filled;
@@ -12,9 +13,9 @@ use std::time::Instant;
 use std::{env, io};
 use wb_heap_model::heap::Ptr;
 
-/// How many cells are live, one measurement for each count.
+/// How many cells are live. Each count has a measurement of its own.
 const COUNTS: [u32; 3] = [100, 1_000, 10_000];
-/// How many words a measurement stores, and how many cells it looks up. It frees and grants half as many.
+/// How many words a measurement stores, and how many cells it looks up. A measurement frees and grants half as many cells.
 const CALLS: u32 = 1_000_000;
 /// How many cells are granted above the holes in each round.
 const PASSES: u32 = 10;
@@ -31,7 +32,7 @@ fn main(rt: HostRuntime) -> io::Result<()> {
     Ok(())
 }
 
-/// Prints what each kind of call costs.
+/// Prints how long each kind of call takes.
 fn time(rt: &HostRuntime, count: u32) -> io::Result<()> {
     let mut cells = Vec::new(rt.alloc());
     let mut filled = Filled::new(rt.alloc(), count, &mut cells)?;
@@ -40,7 +41,7 @@ fn time(rt: &HostRuntime, count: u32) -> io::Result<()> {
     time_looks(rt, count, &mut filled, &cells)
 }
 
-/// Prints what it costs to grant and release a cell.
+/// Prints how long it takes to grant a cell and to release a cell.
 fn time_grants(
     rt: &HostRuntime,
     count: u32,
@@ -72,7 +73,7 @@ fn time_grants(
     )
 }
 
-/// Prints what the calls cost that neither grant nor free a cell.
+/// Prints how long the calls take that only read or write cells.
 fn time_looks(
     rt: &HostRuntime,
     count: u32,
@@ -106,12 +107,12 @@ fn time_looks(
     )
 }
 
-/// Nanoseconds per call.
+/// How many nanoseconds one call takes.
 fn a_call(nanoseconds: u128, calls: u32) -> u128 {
     nanoseconds / calls.max(1) as u128
 }
 
-/// Makes a single round of calls, and prints how many cells are live in it.
+/// Makes a single round of calls, and prints how many cells are live during the round.
 fn call_once(rt: &HostRuntime, count: u32) -> io::Result<()> {
     let mut cells: Vec<Ptr> = Vec::new(rt.alloc());
     let mut filled = Filled::new(rt.alloc(), count, &mut cells)?;

@@ -1,5 +1,5 @@
-//! Laws that every search has an answer. Each is the contract of a function that does nothing, so that the gate proves it. That no search has two
-//! is said by other laws, such as `a_part_has_one_answer`.
+//! Laws that every search has an answer. Each law is the contract of a function that does nothing, so that checking the function proves the
+//! law. Other laws, such as `a_part_has_one_answer`, say that no search has two answers.
 
 ghost use Rattle.std.specs.Prelude.{◌≢◌, ℕ};
 ghost use Rattle.wb_answers.specs.Answered.{AnyCutOrNone, HasAnswer, HasAnswerIn};
@@ -17,8 +17,8 @@ ghost use Rattle.wb_meaning.specs.declared.run.RunResult.{RunResult};
 ghost use Rattle.wb_meaning.specs.declared.run.Why.TheVariants.{Ceiling};
 ghost use Rattle.wb_tree.specs.declared.script.Script.{Script};
 
-/// A sweep over each kind of failure, alone or in pairs, has an answer: a least failure whose run leaks or panics, a least one whose run is
-/// cut, or none of either.
+/// A sweep over each kind of failure, alone or in pairs, has an answer. The answer is a least failure whose run leaks or panics, a least
+/// failure whose run is cut, or that there is no such failure.
 pub fn every_sweep_has_an_answer()
     ensures part { (failures : Failures) (part : Part) (script : Script) (budget : ℕ)
         (shape : Shape) → HasAnswerIn failures part script budget shape }
@@ -26,8 +26,8 @@ pub fn every_sweep_has_an_answer()
         HasAnswer failures script budget shape }
 {}
 
-/// A sweep over sets of failures has an answer too, of at most so many attempts or of any number. Though there is no end to the sets, there
-/// are only so many of attempts that are made.
+/// A sweep over sets of failures also has an answer, whether or not the number of attempts in a set is bounded. There are infinitely many
+/// sets, but only finitely many sets of attempts that are made.
 pub fn every_sweep_over_sets_has_an_answer()
     ensures part { (part : Part) (most : ℕ) (script : Script) (budget : ℕ) (shape : Shape) →
         HasSetAnswerIn part most script budget shape }
@@ -39,13 +39,13 @@ pub fn every_sweep_over_sets_has_an_answer()
         HasEverySetAnswer script budget shape }
 {}
 
-/// Of the numbers of a part there is a least whose run leaks or panics, or none.
+/// Either the numbers of a part have a least number whose run leaks or panics, or no number of the part has such a run.
 pub fn every_list_has_a_least_bad_number_or_none()
     ensures { (runs : ℕ → RunResult) (part : Part) → HasLeastBadOf runs part }
 {}
 
-/// Every script has a table of how its runs end in heaps of all lengths, a least length whose run leaks or panics, or none, and a length whose
-/// run is cut, or none.
+/// Every script has a table of how its runs end in heaps of all lengths. Either there is a least length whose run leaks or panics, or no
+/// length has such a run. Either there is a length whose run is cut, or no length has such a run.
 pub fn every_script_has_a_table_of_lengths()
     ensures table { (script : Script) (budget : ℕ) (shape : Shape) →
         HasLengthTable script budget shape }
@@ -55,8 +55,9 @@ pub fn every_script_has_a_table_of_lengths()
         AnyCutOrNone script budget shape }
 {}
 
-/// A script whose run without a limit isn't cut by the ceiling has a length of heap that it needs, and a table of rises: the greatest end of a
-/// grant in that run, and the grants that made the heap longer than all before them.
+/// If the ceiling doesn't cut a script's run without a limit, the script has a required heap length and a table of rises. The required
+/// length is the greatest end of a granted cell in this run, and the rises are the grants that made the heap longer than all grants before
+/// them.
 pub fn every_script_has_a_required_length()
     ensures { (script : Script) (budget : ℕ) (shape : Shape) →
         (run script Unlimited budget shape).outcome ≢ Cut Ceiling →

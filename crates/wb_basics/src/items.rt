@@ -1,5 +1,5 @@
-//! The list that the trees of scripts and the results of runs are made of. Its value in contracts is its elements alone, without the
-//! pointer of a `Vec`, so a contract can say that a result equals what a definition computes.
+//! The list type of which script trees and run results are made. In contracts a list's value is its elements alone, without the pointer of
+//! a `Vec`. So a contract can say that a result equals what a definition computes.
 
 ghost use Rattle.std.specs.Prelude.{◌≡◌, ◌<◌, ◌↔◌, [], ◌∷◌, ◌++◌, length, slice_get, IfOk, OnOk, OnErr, IsSome};
 ghost use Rattle.std.specs.Option.{option_copied, option_to_list};
@@ -7,7 +7,7 @@ ghost use Rattle.std.specs.Option.{option_copied, option_to_list};
 use std::alloc::{AllocError, Global};
 use std::marker::Model;
 
-/// How many elements `try_copy` copies at a time, and for how many more it makes room.
+/// How many elements `try_copy` copies at a time, and for how many further elements it makes room in the copy.
 const PART: usize = 128;
 
 /// A `Vec` that contracts see as the list of its elements.
@@ -37,7 +37,7 @@ impl<T> Items<T> {
         }
     }
 
-    /// The elements of a `Vec`, in order.
+    /// Makes a list of the elements of a `Vec`, in order.
     pub fn from_vec(items: Vec<T>) -> Items<T>
         ensures { result ≡ items.items }
     {
@@ -76,10 +76,10 @@ impl<T> Items<T> {
         Ok(())
     }
 
-    /// Returns a list of the same elements, in memory of its own; `Err` if the workbench's memory runs out.
+    /// Returns a copy of the list, in newly allocated memory; `Err` if the workbench's memory runs out.
     ///
-    /// The copy of an empty list takes no memory. Any other copy has room for some further elements: without that room, the first push onto
-    /// the copy would copy all its elements once more.
+    /// The copy of an empty list takes no memory. Any other copy has room for some further elements: without this room, the first push onto
+    /// the copy would copy all elements again.
     pub fn try_copy(&self) -> Result<Items<T>, AllocError>
     where
         T: Copy,
@@ -100,7 +100,7 @@ impl<T> Items<T> {
         Ok(Items { items })
     }
 
-    /// Removes the last element and returns it; `None` if the list is empty. Needs no memory.
+    /// Removes the last element and returns it; `None` if the list is empty. `pop` needs no memory.
     pub fn pop(&mut self) -> Option<T>
         ensures popped { self.old ≡ self.new ++ option_to_list result }
         ensures some { IsSome result ↔ (0 < length self.old) }

@@ -1,5 +1,5 @@
-//! What all else is said with: lists that contracts see as their elements, printed lines, the limits of everything, and the error for a
-//! workbench that itself runs out of memory.
+//! What all other crates build on: lists that contracts see as their elements, printed lines, the limits, and the error for a workbench
+//! that itself runs out of memory.
 #![tactic(auto)]
 
 pub mod items;

@@ -1,6 +1,6 @@
-//! Laws of the numbers of limits. Definitions and code cite each number by its name, so they would follow a change; the values
-//! that `docs/LANGUAGE.md` and `docs/REPORTS.md` give are laws here. Each law is the contract of a function that does nothing, so that the
-//! gate proves it.
+//! Laws that fix the value of each limit. Definitions and code cite a limit by its name, so a changed value would go unnoticed there. The
+//! laws here state the values that `docs/LANGUAGE.md` and `docs/REPORTS.md` give. Each law is the contract of a function that does nothing,
+//! so the gate (`./test`) proves the law.
 
 ghost use Rattle.std.specs.Prelude.{◌≡◌};
 ghost use Rattle.wb_basics.specs.declared.limits.TheConstants.{CEILING, LARGEST_REQUEST, MOST_UNITS, MOST_TURNS};
@@ -28,7 +28,7 @@ pub fn script_limits_are()
     ensures literal { LONGEST_LITERAL ≡ 65_536 }
 {}
 
-/// The limits of a run, and of what its statements may ask for.
+/// The limits of a run, and of what the run's statements may request.
 pub fn run_limits_are()
     ensures frames { MOST_FRAMES ≡ 128 }
     ensures request { LARGEST_REQUEST ≡ 1_048_576 }
@@ -37,7 +37,7 @@ pub fn run_limits_are()
     ensures printed { LONGEST_PRINTED ≡ 80 }
 {}
 
-/// The limits of heap lengths, and of the values of options in `docs/REPORTS.md`.
+/// The limits of heap lengths and of option values, as `docs/REPORTS.md` gives them.
 pub fn option_limits_are()
     ensures ceiling { CEILING ≡ 16_777_216 }
     ensures budget { LARGEST_BUDGET ≡ 1_000_000 }

@@ -2,8 +2,9 @@
 
 use std::alloc::AllocError;
 
-/// The workbench's own memory ran out: an allocation that the program needed for itself failed. It is made of the allocator's error alone;
-/// what meets one hands it on, or keeps a variant for it. `tools/no-memory.txt` lists the bodies that write one themselves.
+/// The workbench's own memory ran out: an allocation that the program needed for itself failed. A `NoMemory` is made only from an
+/// `AllocError`. Code that receives a `NoMemory` passes it on, or stores it in a variant of its own error. `tools/no-memory.txt` lists the
+/// function bodies that construct a `NoMemory` themselves.
 #[derive(Clone, Copy, Debug, PartialEq, Eq)]
 pub struct NoMemory(AllocError);
 

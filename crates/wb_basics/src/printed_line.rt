@@ -45,7 +45,7 @@ impl Line {
     }
 }
 
-/// Returns a copy of the lines, in memory of its own; `Err` if the workbench's memory runs out.
+/// Returns a copy of the lines, in newly allocated memory; `Err` if the workbench's memory runs out.
 pub fn copy_of_lines(lines: &Items<Line>) -> Result<Items<Line>, AllocError>
     ensures { IfOk result (λ copy. copy ≡ lines.now) }
 {

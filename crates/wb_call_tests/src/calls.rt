@@ -1,6 +1,6 @@
-//! The calls on a debug heap that may run out of memory. A call that returns `NoMemory` is made once more with the same arguments. A call
-//! whose arguments its contract forbids isn't made, and `NoMemory` is returned for it too: then even a run with enough memory prints other
-//! lines than it should.
+//! The calls that may run out of memory, on a debug heap. If a call returns `NoMemory`, it is made once more with the same arguments. If a
+//! call's contract forbids its arguments, the call isn't made, and the result is also `NoMemory`. A run of the tests that asked for such a
+//! call would print wrong lines even with enough memory.
 
 ghost use Rattle.std.specs.Prelude.{◌≡◌, ◌+◌, ◌^◌, ◌<◌, ◌≤◌, IfOk, IsSome, OnErr, OnOk};
 ghost use Rattle.wb_heap_model.specs.Debug.{IsSoundDebug, alloc_made};
@@ -13,7 +13,7 @@ use wb_debug::{DebugHeap, Heap};
 use wb_heap_model::heap::{Gave, Kind, Ptr};
 use wb_heap_model::reported::Leaks;
 
-/// An attempt to get a cell.
+/// Makes an attempt to get a cell.
 pub(crate) fn alloc(heap: &mut DebugHeap, bytes: u32, kind: Kind) -> Result<Gave, NoMemory>
     ensures made { OnOk result (heap.new ≡ (alloc_made heap.old bytes kind).debug) }
     ensures err { OnErr result (heap.new ≡ heap.old) }
@@ -28,7 +28,7 @@ pub(crate) fn alloc(heap: &mut DebugHeap, bytes: u32, kind: Kind) -> Result<Gave
     }
 }
 
-/// An attempt to give a cell another length.
+/// Makes an attempt to give a cell another length.
 pub(crate) fn realloc(heap: &mut DebugHeap, ptr: Ptr, bytes: u32) -> Result<Gave, NoMemory>
     ensures { heap.new.heap.level ≡ heap.old.heap.level }
 {
@@ -41,7 +41,7 @@ pub(crate) fn realloc(heap: &mut DebugHeap, ptr: Ptr, bytes: u32) -> Result<Gave
     }
 }
 
-/// The attempt itself, for a live cell.
+/// Makes the attempt to give a live cell another length, just once.
 fn realloc_live(heap: &mut DebugHeap, ptr: Ptr, bytes: u32) -> Result<Gave, NoMemory>
     requires live { IsSome (cell_at ptr heap.old.heap.row) }
     requires bytes { bytes ≤ CEILING }
@@ -52,7 +52,7 @@ fn realloc_live(heap: &mut DebugHeap, ptr: Ptr, bytes: u32) -> Result<Gave, NoMe
     heap.attempt_realloc(ptr, bytes)
 }
 
-/// A copy of a heap.
+/// Copies a heap.
 pub(crate) fn copy(heap: &DebugHeap) -> Result<DebugHeap, NoMemory>
     ensures { IfOk result (λ copy. copy ≡ heap.now) }
 {
@@ -62,8 +62,8 @@ pub(crate) fn copy(heap: &DebugHeap) -> Result<DebugHeap, NoMemory>
     }
 }
 
-/// A copy of a heap over the memory of `spare`. If memory runs out at the first call, the memory of `spare` is lost, and the second call
-/// takes new memory.
+/// Copies a heap over the memory of `spare`. If memory runs out at the first call, the memory of `spare` is lost, and the second call takes
+/// new memory.
 pub(crate) fn copy_over(heap: &DebugHeap, spare: Heap) -> Result<DebugHeap, NoMemory>
     ensures { IfOk result (λ copy. copy ≡ heap.now) }
 {
@@ -73,7 +73,7 @@ pub(crate) fn copy_over(heap: &DebugHeap, spare: Heap) -> Result<DebugHeap, NoMe
     }
 }
 
-/// The live cells of a heap, by place.
+/// The live cells of a heap, in order of place.
 pub(crate) fn live(heap: &DebugHeap) -> Result<Leaks, NoMemory> {
     match heap.leaks() {
         Ok(leaks) => Ok(leaks),

@@ -1,10 +1,10 @@
-//! A debug heap and its copies: at first each shows what the other shows, and no change to one changes the other. The copies are taken
-//! before the sixth attempt on a heap where neighbours were freed and a cell is then asked for in their place.
+//! A debug heap and its copies. At first all of these heaps show the same, and later no change to one heap changes another. The copies are
+//! taken before attempt 6, on a heap where neighbours were freed. Attempt 6 then asks for a cell in their place.
 
 use crate::heaps::{Call, Marked};
 use crate::stop::Stop;
 
-/// What is done before the copies are taken.
+/// The calls that are made before the copies are taken.
 static BEFORE: [Call; 11] = [
     Call::Alloc(128),
     Call::Alloc(16),
@@ -19,8 +19,8 @@ static BEFORE: [Call; 11] = [
     Call::FailNext(3),
 ];
 
-/// Every kind of change: grants, reallocations, an attempt that a setting from before the copy makes fail, words, marks, settings, releases
-/// and a note.
+/// The calls that change a heap in every way: grants, reallocations, an attempt that a setting from before the copy makes fail, words,
+/// marks, settings, releases and a note.
 static CHANGES: [Call; 16] = [
     Call::Alloc(80),
     Call::Realloc((240, 5), 48),
@@ -40,7 +40,8 @@ static CHANGES: [Call; 16] = [
     Call::Compress,
 ];
 
-/// Changes a copy while its source stays as it is, and then the source while a second copy, over the memory of the first, stays as it is.
+/// Changes a copy while the source must stay unchanged. Then changes the source while a second copy, over the memory of the first copy,
+/// must stay unchanged.
 pub(crate) fn compare_copies(rt: &HostRuntime) -> Result<(), Stop> {
     let mut source = Marked::new(rt.alloc())?;
     change_both(rt, &mut source)
@@ -52,14 +53,15 @@ fn change_both(rt: &HostRuntime, source: &mut Marked) -> Result<(), Stop> {
     change_source(rt, source, changed)
 }
 
-/// Changes a copy, and returns it.
+/// Makes a copy, changes the copy, and returns it.
 fn change_copy(rt: &HostRuntime, source: &Marked) -> Result<Marked, Stop> {
     let mut copy = source.copy()?;
     change_one(rt, ["copy", "source"], &mut copy, source)?;
     Ok(copy)
 }
 
-/// Changes the source, and then, in the same way, a copy of it over the memory of the copy that was changed before.
+/// Copies the source over the memory of the copy that was changed before. Then changes the source, and afterwards the new copy in the same
+/// way.
 fn change_source(rt: &HostRuntime, source: &mut Marked, changed: Marked) -> Result<(), Stop> {
     let mut copy = source.copy_over(changed)?;
     change_in_turn(rt, source, &mut copy)
@@ -71,7 +73,7 @@ fn change_in_turn(rt: &HostRuntime, source: &mut Marked, copy: &mut Marked) -> R
     copy.show(rt, "copy")
 }
 
-/// Prints two heaps, changes `changed`, and prints both again.
+/// Prints two heaps, changes the heap `changed`, and prints both heaps again.
 fn change_one(
     rt: &HostRuntime,
     names: [&str; 2],

@@ -1,4 +1,4 @@
-//! Calls on a debug heap, made one after another as a table says, with a line for each.
+//! Makes the calls of a table on a debug heap one after another, and prints a line for each call.
 
 ghost use Rattle.std.specs.Prelude.{◌≡◌};
 
@@ -12,7 +12,7 @@ use wb_debug::DebugHeap;
 use wb_heap_model::heap::{Kind, Ptr, Rule, Shape};
 use wb_heap_model::reported::Note;
 
-/// A cell, by its place and its allocation number.
+/// The place and the allocation number of a cell.
 pub(crate) type Cell = (u32, u32);
 
 /// A call on a debug heap. Lengths are in bytes, without the header.
@@ -22,12 +22,12 @@ pub(crate) enum Call {
     Realloc(Cell, u32),
     Free(Cell),
     Mark,
-    /// How many cells are expected.
+    /// The end of a mark: how many cells are expected at its level.
     MarkEnd(u32),
     FailNext(u32),
     FailEvery(u32),
     FailNone,
-    /// A word of a cell, by its index, and its new value.
+    /// A cell, the index of a word of the cell, and the word's new value.
     Store(Cell, u32, u32),
     Compress,
 }
@@ -40,14 +40,14 @@ pub(crate) struct Marked {
     ghost open: { heap.heap.level ≡ marks },
 }
 
-/// Heaps of this shape begin with no bytes, so that the first attempt asks for memory.
+/// The shape of the heaps. A heap of this shape has no bytes at the beginning, so the first attempt asks for memory.
 pub(crate) const SHAPE: Shape = Shape {
     min: 0,
     step: 64,
     moving: false,
 };
 
-/// Cells that are granted in a hole and at the top, that grow in place or by a move; and attempts that a setting makes fail.
+/// Attempts for cells in a hole and at the top, for cells that grow in place or by a move, and attempts that a setting makes fail.
 static ATTEMPTS: [Call; 23] = [
     Call::Alloc(16),
     Call::Alloc(40),
@@ -74,7 +74,7 @@ static ATTEMPTS: [Call; 23] = [
     Call::Compress,
 ];
 
-/// Makes the calls of the table, and then prints all that the heap shows.
+/// Makes the calls of the table, and then prints everything that the heap shows.
 pub(crate) fn make_attempts(rt: &HostRuntime) -> Result<(), Stop> {
     let mut marked = Marked::new(rt.alloc())?;
     make_and_show(rt, &mut marked)
@@ -86,7 +86,7 @@ fn make_and_show(rt: &HostRuntime, marked: &mut Marked) -> Result<(), Stop> {
 }
 
 impl Marked {
-    /// A heap without cells.
+    /// Returns a heap without cells.
     pub(crate) fn new(alloc: Global) -> Result<Marked, NoMemory> {
         match DebugHeap::new(alloc, Rule::Unlimited, SHAPE) {
             Ok(heap) => Ok(Marked { heap, marks: 0 }),
@@ -94,7 +94,7 @@ impl Marked {
         }
     }
 
-    /// A copy of the heap.
+    /// Copies the heap.
     pub(crate) fn copy(&self) -> Result<Marked, NoMemory> {
         Ok(Marked {
             heap: calls::copy(&self.heap)?,
@@ -102,7 +102,7 @@ impl Marked {
         })
     }
 
-    /// A copy of the heap over the memory of `spare`.
+    /// Copies the heap over the memory of `spare`.
     pub(crate) fn copy_over(&self, spare: Marked) -> Result<Marked, NoMemory> {
         let (_, heap) = spare.heap.into_trace_and_heap();
         Ok(Marked {
@@ -111,12 +111,12 @@ impl Marked {
         })
     }
 
-    /// Prints all that the heap shows.
+    /// Prints everything that the heap shows.
     pub(crate) fn show(&self, rt: &HostRuntime, name: &str) -> Result<(), Stop> {
         show(rt, name, &self.heap)
     }
 
-    /// Makes calls, with a line for each.
+    /// Makes calls, and prints a line for each call.
     pub(crate) fn make_calls(&mut self, rt: &HostRuntime, calls: &[Call]) -> Result<(), Stop> {
         for call in calls {
             self.make_call(rt, *call)?;
@@ -132,26 +132,27 @@ impl Marked {
         }
     }
 
-    /// An attempt to get a raw cell.
+    /// Makes an attempt to get a raw cell, and prints the result.
     fn alloc(&mut self, rt: &HostRuntime, bytes: u32) -> Result<(), Stop> {
         let gave = calls::alloc(&mut self.heap, bytes, Kind::Raw)?;
         write_gave(rt, "alloc", bytes, gave, &self.heap)
     }
 
-    /// An attempt to give a cell another length.
+    /// Makes an attempt to give a cell another length, and prints the result.
     fn realloc(&mut self, rt: &HostRuntime, ptr: Ptr, bytes: u32) -> Result<(), Stop> {
         let gave = calls::realloc(&mut self.heap, ptr, bytes)?;
         write_gave(rt, "realloc", bytes, gave, &self.heap)
     }
 
-    /// A call that takes no memory.
+    /// Makes a call that takes no memory, and prints the result.
     fn make_plain(&mut self, rt: &HostRuntime, call: Call) -> Result<(), Stop> {
         let is_done = self.do_plain(call);
         print!(rt; "{}: {is_done}", name_of(call))?;
         write_heap(rt, &self.heap)
     }
 
-    /// Makes a call that takes no memory, and returns whether it succeeded; for `Compress`, whether the heap gave up any bytes.
+    /// Makes a call that takes no memory, and returns whether the call succeeded. For `Compress`, returns whether the heap gave up any
+    /// bytes.
     fn do_plain(&mut self, call: Call) -> bool {
         match call {
             Call::Free(cell) => self.heap.release(pointer(cell)).is_ok(),
@@ -163,7 +164,7 @@ impl Marked {
         }
     }
 
-    /// Makes a call that sets which attempts fail, and returns whether it succeeded.
+    /// Makes a call that sets which attempts fail, and returns whether the call succeeded.
     fn set(&mut self, call: Call) -> bool {
         match call {
             Call::FailNext(n) if n > 0 => {
@@ -182,7 +183,7 @@ impl Marked {
         }
     }
 
-    /// Opens a mark. Returns whether there could be one more.
+    /// Opens a mark. Returns `false` if the heap can't have one more mark.
     fn mark(&mut self) -> bool {
         let Some(marks) = self.marks.checked_add(1) else {
             return false;

@@ -1,4 +1,4 @@
-//! The lines that report calls. Each is written straight to standard output, so that it takes no memory.
+//! The lines that report calls. Each line is written directly to standard output, so that printing takes no memory.
 
 use crate::calls;
 use crate::stop::Stop;
@@ -6,7 +6,8 @@ use wb_debug::DebugHeap;
 use wb_heap_model::heap::{Attempt, Gave, Ptr};
 use wb_heap_model::reported::{Leak, Note};
 
-/// Prints what an attempt returned (the number and the place of the cell, or why there is none), and the state of the heap.
+/// Prints the result of an attempt: the number and the place of the cell, or the reason why there is no cell. Then prints the state of the
+/// heap.
 pub(crate) fn write_gave(
     rt: &HostRuntime,
     call: &str,
@@ -25,8 +26,8 @@ pub(crate) fn write_gave(
     write_heap(rt, heap)
 }
 
-/// Ends a line with the state of a heap: how many attempts were counted, how many lines the trace has, how many cells are live and how many
-/// bytes they have, and the committed length.
+/// Ends a line with the state of a heap. The state is the number of attempts, the number of lines in the trace, the number of live cells
+/// and of their bytes, and the committed length.
 pub(crate) fn write_heap(rt: &HostRuntime, heap: &DebugHeap) -> Result<(), Stop> {
     let (live, bytes, committed) = match heap.note_heap() {
         Note::Heap(live, bytes, committed) => (live, bytes, committed),
@@ -40,7 +41,7 @@ pub(crate) fn write_heap(rt: &HostRuntime, heap: &DebugHeap) -> Result<(), Stop>
     Ok(())
 }
 
-/// Prints all that a heap shows: its state, what is free, its trace, and its live cells with what they hold.
+/// Prints everything that a heap shows: its state, the free bytes, the trace, and the live cells with their words.
 pub(crate) fn show(rt: &HostRuntime, name: &str, heap: &DebugHeap) -> Result<(), Stop> {
     print!(rt; "{name}")?;
     write_heap(rt, heap)?;
@@ -71,7 +72,7 @@ fn show_trace(rt: &HostRuntime, trace: &[Attempt]) -> Result<(), Stop> {
     Ok(())
 }
 
-/// Prints the cells, each with those of its words that aren't zero.
+/// Prints the cells. Of each cell, only the words that aren't zero are printed.
 fn show_cells(rt: &HostRuntime, heap: &DebugHeap, cells: &[Leak]) -> Result<(), Stop> {
     for cell in cells {
         println!(rt;
@@ -87,7 +88,7 @@ fn show_cells(rt: &HostRuntime, heap: &DebugHeap, cells: &[Leak]) -> Result<(), 
     Ok(())
 }
 
-/// Prints the level of a cell, and those of its words that aren't zero.
+/// Prints the level of a cell, and the cell's words that aren't zero.
 fn show_words(rt: &HostRuntime, heap: &DebugHeap, ptr: Ptr) -> Result<(), Stop> {
     let Some(header) = heap.header(ptr) else {
         return Ok(());

@@ -1,8 +1,8 @@
-//! Makes the calls that may run out of memory, one after another, and prints a line with the result of each.
+//! Makes the calls that may run out of memory, one after another, and prints a line with the result of each call.
 //!
 //! A call that returns `NoMemory` is made once more with the same arguments. If the first call left everything as its contract says, the
-//! lines are the same as if memory had been there at once. If the second call returns `NoMemory` too, the last line is `no memory`, and the
-//! status is 4. Printing takes no memory.
+//! lines are the same as in a run with enough memory. If the second call also returns `NoMemory`, the last line is `no memory`, and the
+//! exit status is 4. Printing takes no memory.
 #![tactic(auto)]
 
 mod calls;
@@ -32,7 +32,7 @@ fn main(rt: HostRuntime) -> ExitCode {
     }
 }
 
-/// Makes the calls of each subject.
+/// Makes the calls of each module.
 fn make_calls(rt: &HostRuntime) -> Result<(), Stop> {
     heaps::make_attempts(rt)?;
     rises::make_attempts(rt)?;

@@ -1,4 +1,4 @@
-//! Objects of a script's classes, made in a heap of their own.
+//! Makes objects of a script's classes, in a heap of their own.
 
 ghost use Rattle.std.specs.Prelude.{◌≡◌, ◌<◌, ◌≤◌, length, true};
 ghost use Rattle.wb_tree.specs.Bodies.{class_at};
@@ -15,13 +15,13 @@ use wb_heap_model::heap::{Gave, Rule};
 use wb_objects::make;
 use wb_tree::script::Script;
 
-/// The classes of which objects are made, by their indexes.
+/// The index of the class of each object that is made.
 const MADE: [u16; 6] = [0, 1, 0, 1, 1, 0];
 
-/// Every third attempt fails. A call that is made a second time is still one attempt.
+/// Every third attempt fails. A call that is made a second time still counts as one attempt.
 const RULE: Rule = Rule::Every(3);
 
-/// Makes objects, and then prints all that the heap shows.
+/// Makes objects, and then prints everything that the heap shows.
 pub(crate) fn make_objects(rt: &HostRuntime, script: &Script) -> Result<(), Stop> {
     let Ok(mut heap) = DebugHeap::new(rt.alloc(), RULE, SHAPE) else {
         return Err(Stop::NoMemory);
@@ -37,7 +37,7 @@ fn make_and_show(rt: &HostRuntime, heap: &mut DebugHeap, script: &Script) -> Res
     show(rt, "after all objects", heap)
 }
 
-/// Calls `make`, a second time if memory ran out.
+/// Calls `make`. If memory ran out, calls it a second time.
 fn make_again(heap: &mut DebugHeap, script: &Script, class: u16) -> Result<Gave, NoMemory> {
     if heap.attempts() == u32::MAX || !has_class(script, class) {
         return Err(NoMemory::from(AllocError));
@@ -48,7 +48,7 @@ fn make_again(heap: &mut DebugHeap, script: &Script, class: u16) -> Result<Gave,
     }
 }
 
-/// Whether the script has the class, and an object of it fits below the heap's ceiling.
+/// Whether the script has this class, and an object of the class fits below the heap's ceiling.
 fn has_class(script: &Script, class: u16) -> bool
     ensures there { result ≡ true → class < length script.now.classes }
     ensures fits { result ≡ true → payload_of_object (class_at script.now class) ≤ CEILING }

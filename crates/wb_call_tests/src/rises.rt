@@ -1,5 +1,6 @@
-//! Attempts on a heap that keeps its rises but no trace. An attempt that isn't a rise takes none of the workbench's own memory. So it is
-//! answered at its first call, even while the workbench's allocations fail; `tools/failing_allocations.py` checks that it makes none.
+//! Attempts on a heap that keeps its rises but no trace. An attempt that isn't a rise takes none of the workbench's own memory. So the
+//! first call for such an attempt returns an answer even while the workbench's allocations fail. The tool `tools/failing_allocations.py`
+//! checks that an attempt that isn't a rise makes no allocation.
 
 ghost use Rattle.std.specs.Prelude.{◌≡◌, ◌+◌, ◌^◌, ◌<◌, ◌≤◌, true, IfOk, IsSome};
 ghost use Rattle.wb_heap_model.specs.Debug.{keeps_rises};
@@ -17,25 +18,26 @@ use wb_heap_model::heap::{Gave, Kind, Ptr, Shape};
 enum Call {
     /// An attempt to get a cell for a number of bytes.
     Alloc(u32),
-    /// The place and the allocation number of a cell, and the bytes that it is to have.
+    /// An attempt to reallocate a cell: the cell's place and allocation number, and the new number of bytes.
     Realloc(u32, u32, u32),
-    /// The place and the allocation number of a cell that is released.
+    /// The place and the allocation number of a cell to release.
     Free(u32, u32),
-    /// From here on, every attempt fails whose number, counted from here, is a multiple of this one.
+    /// Makes every attempt fail whose number is a multiple of this number. Attempts are counted from this call on.
     FailEvery(u32),
-    /// This many times: a mark is opened, and an attempt is made to get a cell of its level.
+    /// Opens a mark, and makes an attempt to get a cell of the mark's level; does both so many times.
     MarkedCells(u32),
 }
 
-/// The heap begins with no bytes, so that the first attempt asks for memory.
+/// The shape of the heap. The heap has no bytes at the beginning, so the first attempt asks for memory.
 const SHAPE: Shape = Shape {
     min: 0,
     step: 64,
     moving: false,
 };
 
-/// Cells at the top, in a hole and past the top; attempts that are made to fail; cells that grow in place, grow by a move, and shrink. At
-/// last cells of more levels than the heap keeps counts of, below the end of a long cell that was released.
+/// Attempts for cells at the top, in a hole and past the top, attempts that fail, and cells that grow in place, grow by a move, and shrink.
+/// The last attempts are for cells of more levels than the heap keeps counts of. These cells are below the end of a long cell that was
+/// released.
 static CALLS: [Call; 25] = [
     Call::Alloc(128),
     Call::FailEvery(2),
@@ -70,7 +72,7 @@ pub(crate) fn make_attempts(rt: &HostRuntime) -> Result<(), Stop> {
     make_calls(rt, &mut heap)
 }
 
-/// A heap without cells, asked for a second time if memory ran out.
+/// Returns a heap without cells. If memory ran out, asks for the heap a second time.
 fn new_heap(alloc: Global) -> Result<DebugHeap, NoMemory>
     ensures { IfOk result (λ heap. keeps_rises heap ≡ true) }
 {
@@ -100,7 +102,7 @@ fn make_calls(rt: &HostRuntime, heap: &mut DebugHeap) -> Result<(), Stop>
     Ok(())
 }
 
-/// Makes `count` attempts to get a cell, each after opening another mark.
+/// Makes `count` attempts to get a cell. Opens another mark before each attempt.
 fn make_marked_cells(rt: &HostRuntime, heap: &mut DebugHeap, count: u32) -> Result<(), Stop>
     requires { keeps_rises heap.old ≡ true }
     ensures { keeps_rises heap.new ≡ true }
@@ -112,7 +114,7 @@ fn make_marked_cells(rt: &HostRuntime, heap: &mut DebugHeap, count: u32) -> Resu
     Ok(())
 }
 
-/// An attempt to get a cell, made a second time if memory ran out.
+/// Makes an attempt to get a cell. If memory ran out, makes it a second time.
 fn alloc(rt: &HostRuntime, heap: &mut DebugHeap, bytes: u32) -> Result<(), Stop>
     requires { keeps_rises heap.old ≡ true }
     ensures { keeps_rises heap.new ≡ true }
@@ -125,7 +127,7 @@ fn alloc(rt: &HostRuntime, heap: &mut DebugHeap, bytes: u32) -> Result<(), Stop>
     write_attempt(rt, heap, "alloc", bytes, gave, before, found)
 }
 
-/// An attempt to give a cell another length, made a second time if memory ran out.
+/// Makes an attempt to give a cell another length. If memory ran out, makes it a second time.
 fn realloc(rt: &HostRuntime, heap: &mut DebugHeap, ptr: Ptr, bytes: u32) -> Result<(), Stop>
     requires { keeps_rises heap.old ≡ true }
     ensures { keeps_rises heap.new ≡ true }
@@ -138,7 +140,7 @@ fn realloc(rt: &HostRuntime, heap: &mut DebugHeap, ptr: Ptr, bytes: u32) -> Resu
     write_attempt(rt, heap, "realloc", bytes, gave, before, found)
 }
 
-/// Prints what an attempt returned. If memory ran out at first, but the attempt isn't a rise, a line says so.
+/// Prints the result of an attempt. If memory ran out at the first call although the attempt isn't a rise, an extra line says so.
 fn write_attempt(
     rt: &HostRuntime,
     heap: &DebugHeap,
@@ -170,7 +172,7 @@ fn write_attempt(
     Ok(())
 }
 
-/// The attempt to get a cell, made once.
+/// Makes the attempt to get a cell, just once.
 fn attempt(heap: &mut DebugHeap, bytes: u32) -> Result<Gave, NoMemory>
     ensures { keeps_rises heap.new ≡ keeps_rises heap.old }
 {
@@ -180,7 +182,7 @@ fn attempt(heap: &mut DebugHeap, bytes: u32) -> Result<Gave, NoMemory>
     heap.attempt_alloc(bytes, Kind::Raw)
 }
 
-/// The attempt to give a cell another length, made once.
+/// Makes the attempt to give a cell another length, just once.
 fn reattempt(heap: &mut DebugHeap, ptr: Ptr, bytes: u32) -> Result<Gave, NoMemory>
     ensures { keeps_rises heap.new ≡ keeps_rises heap.old }
 {
@@ -190,7 +192,7 @@ fn reattempt(heap: &mut DebugHeap, ptr: Ptr, bytes: u32) -> Result<Gave, NoMemor
     reattempt_live(heap, ptr, bytes)
 }
 
-/// The attempt to give a live cell another length.
+/// Makes the attempt to give a live cell another length, just once.
 fn reattempt_live(heap: &mut DebugHeap, ptr: Ptr, bytes: u32) -> Result<Gave, NoMemory>
     requires live { IsSome (cell_at ptr heap.old.heap.row) }
     requires bytes { bytes ≤ CEILING }
@@ -200,7 +202,7 @@ fn reattempt_live(heap: &mut DebugHeap, ptr: Ptr, bytes: u32) -> Result<Gave, No
     heap.attempt_realloc(ptr, bytes)
 }
 
-/// Releases the cell that the pointer names, if it names one.
+/// Releases the cell that the pointer names, if the pointer names a live cell.
 fn release(heap: &mut DebugHeap, ptr: Ptr)
     ensures { keeps_rises heap.new ≡ keeps_rises heap.old }
 {

@@ -1,6 +1,6 @@
-//! A run that keeps its rises but no trace, taken one machine turn after another. A line is printed before and after each turn that makes
-//! an attempt, so that `tools/failing_allocations.py` can count the allocations of the turn: none, unless the attempt is one of the rises,
-//! which are printed last.
+//! Takes the machine turns of a run that keeps its rises but no trace, one after another. A line is printed before and after each turn that
+//! makes an attempt. So `tools/failing_allocations.py` can count the allocations of the turn. A turn must make no allocation unless its
+//! attempt is a rise. The rises are printed last.
 
 ghost use Rattle.std.specs.Prelude.{IsTrue};
 ghost use Rattle.wb_tree.specs.Sound.{is_script};
@@ -10,6 +10,7 @@ use crate::stop::Stop;
 use std::alloc::{AllocError, Global};
 use wb_basics::memory::NoMemory;
 use wb_machine::{Machine, Turn, run_rises};
+use wb_meaning::progress::Silent;
 use wb_meaning::run::RisesResult;
 use wb_tree::script::Script;
 
@@ -19,14 +20,14 @@ pub(crate) fn run_for_rises(rt: &HostRuntime, script: &Script) -> Result<(), Sto
 {
     let mut lead = machine(rt.alloc(), script)?;
     take_turns(rt, &mut lead)?;
-    let sized = rises_of(rt.alloc(), script)?;
+    let (sized, _) = rises_of(rt.alloc(), script)?;
     for rise in sized.rises.as_slice() {
         println!(rt; "rise {} of the run to {}", rise.number, rise.top)?;
     }
     Ok(())
 }
 
-/// A machine at the start of the run, asked for a second time if memory ran out.
+/// Returns a machine at the start of the run. If memory ran out, asks for the machine a second time.
 fn machine<'a>(alloc: Global, script: &'a Script) -> Result<Machine<'a>, NoMemory>
     requires { IsTrue (is_script script.now) }
 {
@@ -38,13 +39,15 @@ fn machine<'a>(alloc: Global, script: &'a Script) -> Result<Machine<'a>, NoMemor
     }
 }
 
-/// The whole run, made a second time if memory ran out.
-fn rises_of(alloc: Global, script: &Script) -> Result<RisesResult, NoMemory>
+/// Makes the whole run, and returns its rises and its number of attempts. If memory ran out, makes the run a second time.
+fn rises_of(alloc: Global, script: &Script) -> Result<(RisesResult, u32), NoMemory>
     requires { IsTrue (is_script script.now) }
 {
-    match run_rises(alloc, script, BUDGET, SHAPE) {
+    match run_rises(alloc, script, BUDGET, SHAPE, &mut Silent) {
         Ok(sized) => Ok(sized),
-        Err(_) => run_rises(alloc, script, BUDGET, SHAPE).map_err(|_| NoMemory::from(AllocError)),
+        Err(_) => run_rises(alloc, script, BUDGET, SHAPE, &mut Silent).map_err(|_| NoMemory::from(
+            AllocError,
+        )),
     }
 }
 
@@ -58,7 +61,7 @@ fn take_turns(rt: &HostRuntime, lead: &mut Machine) -> Result<(), Stop> {
     Ok(())
 }
 
-/// Takes a turn while a copy waits.
+/// Takes a turn of a run while a copy of the run waits.
 fn take_turn(rt: &HostRuntime, lead: &mut Machine) -> Result<Turn, Stop> {
     let waiting = copy(lead)?;
     if lead.will_attempt() {
@@ -68,7 +71,7 @@ fn take_turn(rt: &HostRuntime, lead: &mut Machine) -> Result<Turn, Stop> {
     }
 }
 
-/// Takes a turn that makes an attempt, and prints a line before and after it.
+/// Takes a turn that makes an attempt, and prints a line before and after the turn.
 fn take_asking_turn<'a>(
     rt: &HostRuntime,
     lead: &mut Machine<'a>,

@@ -1,6 +1,6 @@
-//! A run that is taken one machine turn after another, beside copies of it. Before each turn that makes an attempt, a copy goes on to the
-//! end of the run, over the memory of the copy that did so before. During each turn, another copy waits. No change to the run or to a copy
-//! changes another.
+//! Takes the machine turns of a run one after another, beside copies of the run. Before each turn that makes an attempt, a copy goes on to
+//! the end of the run. This copy takes over the memory of the copy before. During each turn, another copy waits. A change to the run or to
+//! one of its copies must not change the others.
 
 ghost use Rattle.std.specs.Prelude.{IsTrue};
 ghost use Rattle.wb_tree.specs.Sound.{is_script};
@@ -15,7 +15,7 @@ use wb_tree::script::Script;
 
 pub(crate) const BUDGET: u32 = 1000;
 
-/// The most turns of a run: the first turn, one for each step of the budget, and one that cuts the run.
+/// The most turns of a run: the first turn, one turn for each step of the budget, and one turn that cuts the run.
 pub(crate) const MOST_TURNS: u32 = BUDGET + 2;
 
 pub(crate) const SHAPE: Shape = Shape {
@@ -32,7 +32,7 @@ pub(crate) fn run_script(rt: &HostRuntime, script: &Script) -> Result<(), Stop>
     take_turns(rt, &mut lead)
 }
 
-/// A machine at the start of the run, asked for a second time if memory ran out.
+/// Returns a machine at the start of the run. If memory ran out, asks for the machine a second time.
 fn machine<'a>(alloc: Global, script: &'a Script) -> Result<Machine<'a>, NoMemory>
     requires { IsTrue (is_script script.now) }
 {
@@ -42,7 +42,8 @@ fn machine<'a>(alloc: Global, script: &'a Script) -> Result<Machine<'a>, NoMemor
     }
 }
 
-/// A machine at the start of the run, asked for once. The shape is one that a heap may have, so nothing but memory can be missing.
+/// Returns a machine at the start of the run; asks for it just once. A heap may have this shape, so the only possible error is that memory
+/// ran out.
 fn new_machine<'a>(alloc: Global, script: &'a Script) -> Result<Machine<'a>, NoMemory>
     requires { IsTrue (is_script script.now) }
 {
@@ -66,7 +67,7 @@ fn take_turns(rt: &HostRuntime, lead: &mut Machine) -> Result<(), Stop> {
     write_end(rt, lead, &mut spare)
 }
 
-/// Takes a turn while a copy waits, and prints where both are.
+/// Takes a turn of a run while a copy waits, and prints how far the run and the copy have come.
 fn take_turn(rt: &HostRuntime, lead: &mut Machine) -> Result<Turn, Stop> {
     let waiting = copy(lead)?;
     take_turn_beside(rt, lead, &waiting)
@@ -83,7 +84,7 @@ fn take_turn_beside<'a>(
     Ok(turn)
 }
 
-/// Takes a turn. A machine that has run out of memory in a turn never goes on; so a copy of the waiting machine takes its place, and the
+/// Takes a turn. A machine that has run out of memory in a turn can't go on. So a copy of the waiting machine replaces the machine, and the
 /// turn is taken once more.
 pub(crate) fn step<'a>(lead: &mut Machine<'a>, waiting: &Machine<'a>) -> Result<Turn, NoMemory> {
     match lead.step() {
@@ -95,7 +96,7 @@ pub(crate) fn step<'a>(lead: &mut Machine<'a>, waiting: &Machine<'a>) -> Result<
     }
 }
 
-/// A copy of a run, asked for a second time if memory ran out.
+/// Copies a run. If memory ran out, copies the run a second time.
 pub(crate) fn copy<'a>(machine: &Machine<'a>) -> Result<Machine<'a>, NoMemory> {
     match machine.try_copy() {
         Ok(copy) => Ok(copy),
@@ -103,7 +104,7 @@ pub(crate) fn copy<'a>(machine: &Machine<'a>) -> Result<Machine<'a>, NoMemory> {
     }
 }
 
-/// Prints where a run is.
+/// Prints how far a run has come.
 fn write_turn(rt: &HostRuntime, name: &str, machine: &Machine) -> Result<(), Stop> {
     println!(rt;
         "{name}: line {}, attempts {}, asks for one {}",
@@ -120,7 +121,7 @@ fn write_end(rt: &HostRuntime, lead: &Machine, spare: &mut Option<Heap>) -> Resu
     write_result(rt, &told)
 }
 
-/// The result of the run, by a copy of it, or by a second copy if memory ran out.
+/// Returns the result of the run, which a copy of the run finds. If memory ran out, a second copy finds the result.
 fn end(lead: &Machine, spare: &mut Option<Heap>) -> Result<RunResult, NoMemory> {
     match end_of_copy(lead, spare) {
         Ok(told) => Ok(told),
@@ -135,7 +136,7 @@ fn end_of_copy(lead: &Machine, spare: &mut Option<Heap>) -> Result<RunResult, No
     Ok(result)
 }
 
-/// Prints how a run ended, and how much it reported.
+/// Prints how a run ended, and how much the run reported.
 fn write_result(rt: &HostRuntime, told: &RunResult) -> Result<(), Stop> {
     let written = match &told.outcome {
         Outcome::Ended { left, leaks } => print!(rt; "ended: {left:?}, {} leaks", leaks.len()),

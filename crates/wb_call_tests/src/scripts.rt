@@ -1,5 +1,5 @@
-//! Scripts that are read: one with lines of most kinds, which is run, and of whose classes objects are made; one that is run for its rises;
-//! and some that have a fault.
+//! Reads scripts. The first has lines of most kinds; it is run, and objects of its classes are made. The second is run for its rises. The
+//! others have a fault.
 
 ghost use Rattle.std.specs.Prelude.{IfOk, IsTrue};
 ghost use Rattle.wb_tree.specs.Sound.{is_script};
@@ -69,9 +69,9 @@ leave code
 end
 ";
 
-/// A script most of whose attempts aren't rises, since they are for cells below the end of a long cell that was released: cells of more
-/// levels than a heap keeps counts of, also in an outer level after inner levels have ended, attempts that fail, within a TRAP and as its
-/// last, an object, texts, and pushes that grow the cleanup stack.
+/// A script most of whose attempts aren't rises, because the cells are below the end of a long cell that was released. The script has cells
+/// of more levels than a heap keeps counts of, also in an outer level after inner levels have ended. The script has attempts that fail, in
+/// a TRAP and as the last attempt. The script also has an object, texts, and pushes that make the cleanup stack grow.
 static BELOW_THE_TOP: &[u8] = b"class Item 4
 field next Item
 end
@@ -122,7 +122,7 @@ alloc cell 50
 end
 ";
 
-/// Scripts with a fault, each of which another check finds.
+/// Scripts with a fault. A different check finds the fault of each script.
 static FAULTY: [&[u8]; 6] = [
     b"proc main\nptr a\n\x07\nend",
     b"proc main\nptr a\nelse\nend",
@@ -162,7 +162,7 @@ fn write_fault(rt: &HostRuntime, bytes: &[u8]) -> Result<(), Stop> {
     }
 }
 
-/// Calls `read`, a second time if memory ran out.
+/// Calls `read`. If memory ran out, calls it a second time.
 fn read_again(alloc: Global, bytes: &[u8]) -> Result<Script, ScriptFault>
     ensures { IfOk result (λ script. IsTrue (is_script script)) }
 {
@@ -173,7 +173,7 @@ fn read_again(alloc: Global, bytes: &[u8]) -> Result<Script, ScriptFault>
     }
 }
 
-/// Prints what a script has, makes objects of its classes, and runs it.
+/// Prints how many classes, procedures, operations and literals a script has, makes objects of its classes, and runs the script.
 fn use_script(rt: &HostRuntime, script: &Script) -> Result<(), Stop>
     requires { IsTrue (is_script script.now) }
 {

@@ -1,4 +1,4 @@
-//! Items that are pushed onto a cleanup stack, so many that the stack's cell grows in place, and then grows by a move.
+//! Pushes items onto a cleanup stack: so many that the stack's cell first grows in place, and later grows by a move.
 
 ghost use Rattle.std.specs.Prelude.{◌≡◌, IfOk, IfSome};
 ghost use Rattle.wb_cleanup.specs.Stacks.{IsStack};
@@ -15,13 +15,13 @@ use wb_cleanup::{Cleanup, Pushed};
 use wb_debug::DebugHeap;
 use wb_heap_model::heap::{Gave, Item, Kind, Ptr, Rule};
 
-/// How many items are pushed before another cell is made behind the stack's cell.
+/// How many items are pushed before another cell is made, at a place after the stack's cell.
 const FIRST: u32 = 9;
 
-/// How many items are pushed after that.
+/// How many items are pushed after the other cell is made.
 const LATER: u32 = 12;
 
-/// A cleanup stack in its heap, which contracts see as the heap.
+/// A cleanup stack in its heap. Contracts see only the heap.
 #[derive(Drop)]
 struct Stacked {
     heap: DebugHeap,
@@ -39,7 +39,7 @@ impl Model for Stacked {
     ghost invariant = { λ s. IsStacked s.stack s.heap };
 }
 
-/// Pushes items, takes them off again, and prints each, the newest first.
+/// Pushes items, and then takes them off again. Prints each item that is taken off, the newest first.
 pub(crate) fn push_items(rt: &HostRuntime) -> Result<(), Stop> {
     let mut stacked = empty_stack(rt.alloc())?;
     push_and_take(rt, &mut stacked)
@@ -54,7 +54,7 @@ fn push_and_take(rt: &HostRuntime, stacked: &mut Stacked) -> Result<(), Stop> {
     stacked.take_all(rt)
 }
 
-/// An empty stack in a heap of its own.
+/// Returns an empty stack in a heap of its own.
 fn empty_stack(alloc: Global) -> Result<Stacked, NoMemory> {
     let Ok(mut heap) = DebugHeap::new(alloc, Rule::Unlimited, SHAPE) else {
         return Err(NoMemory::from(AllocError));
@@ -65,7 +65,7 @@ fn empty_stack(alloc: Global) -> Result<Stacked, NoMemory> {
     }
 }
 
-/// Starts a stack, a second time if memory ran out.
+/// Starts a stack. If memory ran out, starts it a second time.
 fn start(heap: &mut DebugHeap) -> Result<Option<Cleanup>, NoMemory>
     requires first { heap.old.attempts ≡ 0 }
     ensures stands { IfOk result (λ started. IfSome started (λ stack. IsStack stack heap.new)) }
@@ -78,7 +78,7 @@ fn start(heap: &mut DebugHeap) -> Result<Option<Cleanup>, NoMemory>
 }
 
 impl Stacked {
-    /// Pushes `n` items, of which the first has the number `from`.
+    /// Pushes `n` items. The first of these items has the number `from`.
     fn push_some(&mut self, rt: &HostRuntime, from: u32, n: u32) -> Result<(), Stop> {
         for i in from..from.saturating_add(n) {
             let pushed = self.push(item(i))?;
@@ -88,7 +88,7 @@ impl Stacked {
         Ok(())
     }
 
-    /// Pushes an item, a second time if memory ran out.
+    /// Pushes an item. If memory ran out, pushes it a second time.
     fn push(&mut self, item: Item) -> Result<Pushed, NoMemory> {
         if self.stack.is_full() || self.heap.attempts() == u32::MAX {
             return Err(NoMemory::from(AllocError));
@@ -99,17 +99,17 @@ impl Stacked {
         }
     }
 
-    /// Makes an attempt to get a raw cell, which lies behind the stack's.
+    /// Makes an attempt to get a raw cell. The cell is to be after the stack's cell.
     fn alloc(&mut self, bytes: u32) -> Result<Gave, NoMemory> {
         calls::alloc(&mut self.heap, bytes, Kind::Raw)
     }
 
-    /// Takes the newest item off, or returns `None` if there is none.
+    /// Takes the newest item off the stack, and returns it; `None` if the stack is empty.
     fn take(&mut self) -> Option<Item> {
         self.stack.take_top(&self.heap, 0)
     }
 
-    /// Takes all items off, and prints each.
+    /// Takes all items off the stack, and prints each item.
     fn take_all(&mut self, rt: &HostRuntime) -> Result<(), Stop> {
         for _ in 0..FIRST + LATER + 1 {
             let item = self.take();
@@ -119,7 +119,7 @@ impl Stacked {
     }
 }
 
-/// Item number `i`, which differs from all others.
+/// The item with number `i`. Items with different numbers are different.
 fn item(i: u32) -> Item {
     let ptr = Ptr {
         place: i,

@@ -1,4 +1,4 @@
-//! Texts that are made in cells and then get another maximum length, in place or by a move.
+//! Makes texts in cells, and then gives them another maximum length, in place or by a move.
 
 ghost use Rattle.std.specs.Prelude.{◌≤◌, [], IfOk};
 ghost use Rattle.wb_heap_model.specs.TextCells.{IsGrantedText, IsRemadeText, IsTextAt, text_at};
@@ -14,7 +14,7 @@ use wb_debug::DebugHeap;
 use wb_hbuf::{length, make, max_len, remake, set_length};
 use wb_heap_model::heap::{Gave, Kind, Ptr, Rule};
 
-/// Makes texts, and then prints all that the heap shows.
+/// Makes texts, and then prints everything that the heap shows.
 pub(crate) fn make_texts(rt: &HostRuntime) -> Result<(), Stop> {
     let Ok(mut heap) = DebugHeap::new(rt.alloc(), Rule::Unlimited, SHAPE) else {
         return Err(Stop::NoMemory);
@@ -28,7 +28,7 @@ fn make_and_show(rt: &HostRuntime, heap: &mut DebugHeap) -> Result<(), Stop> {
     show(rt, "after all texts", heap)
 }
 
-/// Makes a hole in front of a live cell.
+/// Makes a hole before a live cell.
 fn make_hole(rt: &HostRuntime, heap: &mut DebugHeap) -> Result<(), Stop> {
     let first = alloc(rt, heap, 64)?;
     alloc(rt, heap, 16)?;
@@ -46,7 +46,7 @@ fn alloc(rt: &HostRuntime, heap: &mut DebugHeap, bytes: u32) -> Result<Ptr, Stop
     }
 }
 
-/// Makes a text that grows in the hole, moves behind the live cell, is denied more, and shrinks.
+/// Makes a text that grows in the hole, moves to a place after the live cell, fails to grow once more, and shrinks.
 fn grow_text(rt: &HostRuntime, heap: &mut DebugHeap) -> Result<(), Stop> {
     let text = new_text(rt, heap, 4)?;
     let _ = set_length(heap, text, 3);
@@ -73,7 +73,7 @@ fn new_text(rt: &HostRuntime, heap: &mut DebugHeap, n: u32) -> Result<Ptr, Stop>
     }
 }
 
-/// Calls `make`, a second time if memory ran out.
+/// Calls `make`. If memory ran out, calls it a second time.
 fn make_again(heap: &mut DebugHeap, n: u32) -> Result<Gave, NoMemory>
     requires { n ≤ MOST_UNITS }
     ensures { IfOk result (IsGrantedText heap.new []) }
@@ -87,7 +87,7 @@ fn make_again(heap: &mut DebugHeap, n: u32) -> Result<Gave, NoMemory>
     }
 }
 
-/// Makes an attempt to give a text another maximum length, and returns the pointer to it: the old pointer if the attempt was denied.
+/// Makes an attempt to give a text another maximum length. Returns the pointer to the text, which is the old pointer if the attempt failed.
 fn remake_text(rt: &HostRuntime, heap: &mut DebugHeap, ptr: Ptr, n: u32) -> Result<Ptr, Stop>
     requires text { IsTextAt ptr heap.old }
     requires most { n ≤ MOST_UNITS }
@@ -101,7 +101,7 @@ fn remake_text(rt: &HostRuntime, heap: &mut DebugHeap, ptr: Ptr, n: u32) -> Resu
     }
 }
 
-/// Calls `remake`, a second time if memory ran out.
+/// Calls `remake`. If memory ran out, calls it a second time.
 fn remake_again(heap: &mut DebugHeap, ptr: Ptr, n: u32) -> Result<Gave, NoMemory>
     requires text { IsTextAt ptr heap.old }
     requires most { n ≤ MOST_UNITS }

@@ -1,4 +1,4 @@
-//! A list of bits, and searches for bits that are on. What a bit means is not said here.
+//! A list of bits, and searches for bits that are on. The callers decide what a bit means.
 
 ghost use Rattle.std.specs.Prelude.{◌≡◌, ◌+◌, ◌-◌, ◌*◌, ◌/◌, ◌<◌, ◌≤◌, [], ◌++◌, length, replicate, slice_set};
 ghost use Rattle.std.specs.Prelude.{slice_index_or, false, IfOk, IsOk, OnOk, OnErr};
@@ -8,7 +8,7 @@ use std::alloc::{AllocError, Global};
 use std::marker::Model;
 use wb_basics::limits::CEILING;
 
-/// How many places of 16 bytes a chunk may have at most, and so how many bits a list may have.
+/// The greatest number of places of 16 bytes that a chunk may have. A list may have at most this many bits.
 pub const MOST_PLACES: u32 = CEILING / 16;
 
 /// A list of bits, 32 to a word, which grows at its end.
@@ -40,7 +40,7 @@ impl Bits {
         }
     }
 
-    /// A copy with the same bits, in memory of its own. `Err` if the allocator refuses memory.
+    /// Returns a copy with the same bits, in newly allocated memory. Returns `Err` if the allocator refuses memory.
     pub fn try_copy(&self) -> Result<Bits, AllocError>
         ensures { IfOk result (λ copy. copy ≡ self.now) }
     {
@@ -57,8 +57,8 @@ impl Bits {
         32 * self.words.len() as u32
     }
 
-    /// Appends bits that are off, 32 at a time, until there are at least `count` bits; takes no memory if there are that many already.
-    /// `Err` if the allocator refuses memory, and then the bits are as they were.
+    /// Appends bits that are off, 32 at a time, until there are at least `count` bits. The call takes no memory if there are at least
+    /// `count` bits already. If the allocator refuses memory, the call returns `Err` and leaves the bits as they were.
     pub fn grow_to(&mut self, count: u32) -> Result<(), AllocError>
         requires { count ≤ MOST_PLACES }
         ensures grown { OnOk result (self.new
@@ -95,7 +95,7 @@ impl Bits {
         words[index] = with_bit(words[index], at % 32, on);
     }
 
-    /// The index of the first bit that is on, from index `from` on, or `None`.
+    /// Returns the index of the first bit that is on, at index `from` or above; `None` if there is no such bit.
     pub fn next(&self, from: u32) -> Option<u32>
         ensures { IsNext self.now from result }
     {
@@ -112,7 +112,7 @@ impl Bits {
         None
     }
 
-    /// The index of the last bit that is on, from index `from` on and below `end`, or `None`.
+    /// Returns the index of the last bit that is on, at index `from` or above and below `end`; `None` if there is no such bit.
     pub fn last(&self, from: u32, end: u32) -> Option<u32>
         ensures { IsLastOn self.now from end result }
     {
@@ -130,7 +130,7 @@ impl Bits {
     }
 }
 
-/// The highest bit of a word that is on and is not above bit `top`, or `None`.
+/// Returns the number of the highest bit of a word that is on, among bits 0 to `top`; `None` if all these bits are off.
 fn last_in(word: u32, top: u32) -> Option<u32>
     requires { top < 32 }
     ensures { IsLastIn word top result }

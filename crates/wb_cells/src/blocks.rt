@@ -1,5 +1,6 @@
-//! The greatest length of each block of places. The number of the block that changed last is kept apart from the list of all blocks: that
-//! list isn't written while the number stays at least as great as the one that the list has for this block.
+//! A list with one number for each block of places: the greatest length in the block. The number of the block that changed last is stored
+//! apart from the list of all blocks. So a further change of this block's number writes the list only if the list's own number for the
+//! block is greater than the new number.
 
 ghost use Rattle.std.specs.Prelude.{◌≡◌, ◌-◌, ◌<◌, ◌≤◌, [], ◌++◌, length, replicate, slice_index, slice_set, IfOk, IsOk};
 ghost use Rattle.std.specs.Prelude.{OnOk, OnErr};
@@ -10,10 +11,10 @@ use crate::ranked::Ranked;
 use std::alloc::{AllocError, Global};
 use std::marker::Model;
 
-/// A number for each block, in a list that grows at its end.
+/// A list with a number for each block, which grows at its end.
 #[derive(Drop)]
 pub struct Blocks {
-    /// The numbers of all blocks, except that the number of the latest block may be less here than it is.
+    /// The numbers of all blocks. The number here for the latest block may be less than that block's true number.
     ranked: Ranked,
     /// The block that changed last.
     latest: u32,
@@ -44,7 +45,7 @@ impl Blocks {
         }
     }
 
-    /// A copy with the same numbers, in memory of its own. `Err` if the allocator refuses memory.
+    /// Returns a copy with the same numbers, in newly allocated memory. Returns `Err` if the allocator refuses memory.
     pub fn try_copy(&self) -> Result<Blocks, AllocError>
         ensures { IfOk result (λ copy. copy ≡ self.now) }
     {
@@ -55,8 +56,8 @@ impl Blocks {
         })
     }
 
-    /// Appends numbers that are 0 until there are `count` numbers; takes no memory if there are that many already. `Err` if the allocator
-    /// refuses memory, and then the numbers are as they were.
+    /// Appends numbers that are 0 until there are `count` numbers. The call takes no memory if there are at least `count` numbers already.
+    /// If the allocator refuses memory, the call returns `Err` and leaves the numbers as they were.
     pub fn grow_to(&mut self, count: u32) -> Result<(), AllocError>
         requires { count ≤ MOST_PLACES }
         ensures grown { OnOk result (self.new ≡ self.old ++ replicate (count - length self.old) 0) }
@@ -78,7 +79,7 @@ impl Blocks {
         self.ranked.number(at)
     }
 
-    /// Gives a block another number.
+    /// Sets the number of block `at`.
     pub fn set(&mut self, at: u32, number: u32)
         requires { at < length self.old }
         ensures { self.new ≡ slice_set self.old at number }
@@ -91,7 +92,7 @@ impl Blocks {
         self.number = number;
     }
 
-    /// The first block whose number is at least `least`, or `None`.
+    /// Returns the first block whose number is at least `least`; `None` if there is no such block.
     pub fn first_long(&self, least: u32) -> Option<u32>
         requires { 0 < least }
         ensures { IsFirstLong (slice_index self.now) least result }
@@ -106,7 +107,7 @@ impl Blocks {
         }
     }
 
-    /// The last block below block `at` whose number is not 0, or `None`.
+    /// Returns the last block below block `at` whose number is not 0; `None` if there is no such block.
     pub fn last_below(&self, at: u32) -> Option<u32>
         ensures { IsLast (slice_index self.now) 0 at result }
     {
@@ -128,7 +129,7 @@ impl Blocks {
     }
 }
 
-/// Writes a number that was kept apart into the list of all blocks.
+/// Writes the number that was stored apart into the list of all blocks.
 fn settle(ranked: &mut Ranked, at: u32, number: u32)
     requires within { 0 < number → at < length ranked.old }
     requires low { slice_index ranked.old at ≤ number }
@@ -139,7 +140,7 @@ fn settle(ranked: &mut Ranked, at: u32, number: u32)
     }
 }
 
-/// Lowers the number at index `at` to `most` if it is greater, and changes nothing else.
+/// Sets the number at index `at` to `most` if the number is greater than `most`, and changes nothing else.
 fn lower(ranked: &mut Ranked, at: u32, most: u32)
     requires { at < length ranked.old }
     ensures same { slice_set ranked.new at most ≡ slice_set ranked.old at most }

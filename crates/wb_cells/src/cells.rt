@@ -1,5 +1,5 @@
-//! The cells of a chunk, and the calls on them. Not decided here: which bytes a heap that has grown may use, and in which order memory is
-//! asked for.
+//! The cells of a chunk, and the calls on cells. The callers decide which bytes a heap may use after it has grown, and in which order
+//! memory is requested.
 
 ghost use Rattle.std.specs.Prelude.{◌≡◌, ◌≢◌, ◌+◌, ◌*◌, ◌%◌, ◌<◌, ◌≤◌, [], ◌++◌, max, true, length, take, drop, slice_index};
 ghost use Rattle.std.specs.Prelude.{slice_set, All, IfOk, OnOk, OnErr, option_map, IsOk, IsSome};
@@ -21,13 +21,13 @@ use wb_basics::memory::NoMemory;
 use wb_chunk::Chunk;
 use wb_heap_model::heap::{Header, Ptr};
 
-/// Cells end to end in a chunk of words, from place 0 up to the end of the last live cell. Contracts see the row of live cells that the
-/// words spell, and how many bytes are held. Places and lengths are in bytes; a place is a multiple of 16.
+/// Cells that lie end to end in a chunk of words, from place 0 up to the end of the last live cell. Contracts see the row of live cells
+/// that the words encode, and how many bytes are held. Places and lengths are in bytes; a place is a multiple of 16.
 ///
-/// A free cell lies between two live cells, or before the first one; the words link the free cells in order of place. No two free cells
-/// touch. One bit for each place of 16 bytes says whether a live cell begins there, so that no payload can pass for a header. An index of
-/// the free cells' lengths finds a free cell without a walk along the links, so no call gets slower when there are more cells, live or
-/// free.
+/// A free cell lies between two live cells, or before the first live cell. The words link the free cells in order of place. No two free
+/// cells touch. One bit for each place of 16 bytes says whether a live cell begins there, so no payload can be mistaken for a header. An
+/// index of the free cells' lengths finds a free cell without following the links. So the time that a call takes has a bound that doesn't
+/// depend on how many live or free cells there are.
 pub struct Cells {
     pub(crate) words: Chunk,
     starts: Bits,
@@ -35,8 +35,8 @@ pub struct Cells {
     ends: Ends,
 }
 
-/// Written out rather than derived: a proof elsewhere that drops a `Cells` sees one call, and only this function's own proof goes through
-/// the fields.
+/// Written out rather than derived. So a proof elsewhere that drops a `Cells` sees one call, and only the proof of this function goes
+/// through the fields.
 impl Drop for Cells {
     fn drop(self) {
         let Cells {
@@ -60,7 +60,7 @@ impl Model for Cells {
 }
 
 impl Cells {
-    /// No cells, and no bytes held. The call takes no memory.
+    /// Returns a value with no cells and no bytes held. The call takes no memory.
     pub fn new(alloc: Global) -> Cells
         ensures { result ≡ record { row = []; held = 0 } }
     {
@@ -75,8 +75,9 @@ impl Cells {
         }
     }
 
-    /// A copy with the same cells and the same number of bytes held, in memory of its own: no change to the copy or to the original changes
-    /// the other. `Err` if the workbench's own memory runs out.
+    /// Returns a copy with the same cells and the same number of bytes held, in newly allocated memory. A later change to the copy doesn't
+    /// change the original, and a later change to the original doesn't change the copy. Returns `Err` if the workbench's own memory runs
+    /// out.
     pub fn try_copy(&self) -> Result<Cells, NoMemory>
         ensures { IfOk result (λ copy. copy ≡ self.now) }
     {
@@ -88,9 +89,10 @@ impl Cells {
         })
     }
 
-    /// A copy with the same cells and the same number of bytes held, over the memory of `spare`, whose cells are lost; that memory is made
-    /// larger if need be. Of the words, only blocks that may differ are written. No change to the copy or to the original changes the
-    /// other. `Err` if the workbench's own memory runs out.
+    /// Returns a copy with the same cells and the same number of bytes held, in the memory of `spare`. The cells of `spare` are lost, and
+    /// its memory is made larger if necessary. Of the words, only blocks that may differ are written. A later change to the copy doesn't
+    /// change the original, and a later change to the original doesn't change the copy. Returns `Err` if the workbench's own memory runs
+    /// out.
     pub fn try_copy_over(&self, spare: Cells) -> Result<Cells, NoMemory>
         ensures { IfOk result (λ copy. copy ≡ self.now) }
     {
@@ -112,8 +114,8 @@ impl Cells {
         })
     }
 
-    /// Reserves bytes until at least `bytes` are held; the cells stay as they are. The call takes no memory if that many are held already.
-    /// `Err` if the workbench's own memory runs out, and then nothing has changed.
+    /// Reserves memory until at least `bytes` bytes are held; the cells stay as they are. The call takes no memory if at least `bytes`
+    /// bytes are held already. If the workbench's own memory runs out, the call returns `Err` and changes nothing.
     pub fn reserve(&mut self, bytes: u32) -> Result<(), NoMemory>
         requires rounded { bytes % 16 ≡ 0 }
         requires within { bytes ≤ CEILING }
@@ -128,7 +130,7 @@ impl Cells {
         Ok(())
     }
 
-    /// How many bytes are held: the greatest number that was reserved.
+    /// How many bytes are held: the greatest number of bytes that was ever reserved.
     pub fn held(&self) -> u32
         ensures bytes { result ≡ self.now.held }
         ensures sound { IsSoundCells self.now }
@@ -144,8 +146,8 @@ impl Cells {
         self.ends.top
     }
 
-    /// The lowest place where a cell of `length` bytes fits; the space above the last live cell counts as free without end. Source: Symbian
-    /// OS v9 SDK reference, RHeap (first fit in address order).
+    /// Returns the lowest place where a cell of `length` bytes fits. All space above the last live cell counts as free, without a limit.
+    /// Source: Symbian OS v9 SDK reference, RHeap (first fit in address order).
     pub fn first_fit(&self, length: u32) -> u32
         requires { 16 ≤ length }
         ensures place { result ≡ place_of (headers self.now.row) length }
@@ -170,7 +172,7 @@ impl Cells {
     }
 
     /// Inserts a live cell with this header and a payload of zeros, whatever the bytes were before. If the cell is put into a longer free
-    /// cell, the rest past its end stays a free cell. The call takes no memory.
+    /// cell, the bytes past the new cell's end stay a free cell. The call takes no memory.
     pub fn take(&mut self, place: u32, length: u32, header: Header)
         requires rounded { length % 16 ≡ 0 }
         requires least { 16 ≤ length }
@@ -201,8 +203,8 @@ impl Cells {
         self.starts.set(place / 16, true);
     }
 
-    /// Removes the cell that the pointer names. Its bytes and the free cells that touch it become one free cell, or part of the space above
-    /// the last live cell if no live cell follows.
+    /// Removes the cell that the pointer names. The cell's bytes and the free cells that touch the cell become one free cell. If no live
+    /// cell follows, these bytes instead become part of the space above the last live cell.
     pub fn give(&mut self, ptr: Ptr)
         requires { IsSome (cell_at ptr self.old.row) }
         ensures given { self.new ≡ record self.old { row = without ptr self.old.row } }
@@ -217,9 +219,9 @@ impl Cells {
         self.starts.set(ptr.place / 16, false);
     }
 
-    /// Changes the length of the cell that the pointer names, and leaves the cell at its place. Bytes that it gains are zeros. Bytes that
-    /// it loses, together with what it leaves of a free cell after it, become one free cell, or part of the space above the last live cell.
-    /// The call takes no memory.
+    /// Changes the length of the cell that the pointer names, and leaves the cell at its place. Bytes that the cell gains are zeros. The
+    /// bytes that the cell loses, and the rest of a free cell after it, become one free cell. If no live cell follows, these bytes instead
+    /// become part of the space above the last live cell. The call takes no memory.
     pub fn resize(&mut self, ptr: Ptr, length: u32)
         requires live { IsSome (cell_at ptr self.old.row) }
         requires rounded { length % 16 ≡ 0 }
@@ -244,8 +246,8 @@ impl Cells {
         self.ends = ends;
     }
 
-    /// The header of the cell that the pointer names, or `None` if no live cell begins at the pointer's place, or if the live cell there
-    /// has another allocation number. The call reads one bit and four words, however many cells there are.
+    /// Returns the header of the cell that the pointer names. Returns `None` if no live cell begins at the pointer's place, or if the live
+    /// cell there has another allocation number. The call reads one bit and four words, however many cells there are.
     pub fn header(&self, ptr: Ptr) -> Option<Header>
         ensures header { result ≡ option_map (λ c. c.head) (cell_at ptr self.now.row) }
         ensures sound { IsSoundCells self.now }
@@ -264,8 +266,8 @@ impl Cells {
         }
     }
 
-    /// The header of the first live cell that begins at the place `from` or above it, or `None`. The call scans the bits from that place
-    /// on.
+    /// Returns the header of the first live cell that begins at place `from` or above; `None` if there is no such cell. The call scans the
+    /// bits from place `from` on.
     pub fn next_live(&self, from: u32) -> Option<Header>
         ensures first { result ≡ next_live_of from (headers self.now.row) }
         ensures sound { IsSoundCells self.now }
@@ -276,7 +278,7 @@ impl Cells {
         }
     }
 
-    /// How many bytes are free between the cell that the pointer names and the next live cell, or `None` if no live cell follows.
+    /// Returns how many bytes are free between the cell that the pointer names and the next live cell; `None` if no live cell follows.
     pub fn room_after(&self, ptr: Ptr) -> Option<u32>
         requires { IsSome (cell_at ptr self.now.row) }
         ensures room { result ≡ room_after ptr (headers self.now.row) }
@@ -289,7 +291,7 @@ impl Cells {
         Some(self.gaps.length_at(end / 16))
     }
 
-    /// Gives the cell that the pointer names another level.
+    /// Sets the level of the cell that the pointer names.
     pub fn set_level(&mut self, ptr: Ptr, level: u32)
         requires { IsSome (cell_at ptr self.old.row) }
         ensures changed { self.new ≡ record self.old { row = with_level ptr level self.old.row } }
@@ -298,7 +300,7 @@ impl Cells {
         self.words.set_word(layout::words_in(ptr.place) + 2, level);
     }
 
-    /// The word at index `i` of a payload. That the index lies within the payload implies that the pointer names a live cell.
+    /// The word at index `i` of a payload. `i` must lie within the payload, which implies that the pointer names a live cell.
     pub fn payload(&self, ptr: Ptr, i: u32) -> u32
         requires { i < length (payload_of ptr self.now.row) }
         ensures word { result ≡ slice_index (payload_of ptr self.now.row) i }
@@ -307,8 +309,8 @@ impl Cells {
         self.words.word(layout::payload_at(ptr.place) + i)
     }
 
-    /// Whether the payload that `ptr` names here has the same words as the payload that `there` names in `other`. Both have `n` words and
-    /// are at the same place. Words that are known to be zeros in both aren't read.
+    /// Whether the payload that `ptr` names here has the same words as the payload that `there` names in `other`. Both payloads have `n`
+    /// words and are at the same place. Words that are known to be zeros in both payloads aren't read.
     pub fn has_payload_of(&self, ptr: Ptr, other: &Cells, there: Ptr, n: u32) -> bool
         requires live { IsSome (cell_at ptr self.now.row) }
         requires other_live { IsSome (cell_at there other.now.row) }
@@ -321,7 +323,7 @@ impl Cells {
             .has_words_of(&other.words, layout::payload_at(ptr.place), n)
     }
 
-    /// Puts another word at index `i` of a payload.
+    /// Sets the word at index `i` of a payload to `v`.
     pub fn set_payload(&mut self, ptr: Ptr, i: u32, v: u32)
         requires { i < length (payload_of ptr self.old.row) }
         ensures changed { self.new ≡ record self.old {
@@ -332,7 +334,7 @@ impl Cells {
         self.words.set_word(layout::payload_at(ptr.place) + i, v);
     }
 
-    /// The half at index `i` of a payload, where indexes count halves of 16 bits: half 2k is the low half of word k.
+    /// The half at index `i` of a payload. Indexes count halves of 16 bits: half 2k is the low half of word k.
     pub fn payload_half(&self, ptr: Ptr, i: u32) -> u16
         requires { i < 2 * length (payload_of ptr self.now.row) }
         ensures half { result ≡ half_of (payload_of ptr self.now.row) i }
@@ -341,7 +343,7 @@ impl Cells {
         self.words.half(2 * layout::payload_at(ptr.place) + i)
     }
 
-    /// Puts another half at index `i` of a payload, where indexes count halves, and leaves the other half of the word as it is.
+    /// Sets the half at index `i` of a payload to `v`, and leaves the other half of the word as it is. Indexes count halves.
     pub fn set_payload_half(&mut self, ptr: Ptr, i: u32, v: u16)
         requires { i < 2 * length (payload_of ptr self.old.row) }
         ensures changed { self.new ≡ record self.old {
@@ -353,7 +355,8 @@ impl Cells {
             .set_half(2 * layout::payload_at(ptr.place) + i, v);
     }
 
-    /// Copies the first `n` words of the payload of `from` over the first `n` words of the payload of `to`, which may be the same cell.
+    /// Copies the first `n` words of the payload of `from` over the first `n` words of the payload of `to`. `to` may be the same cell as
+    /// `from`.
     pub fn copy_payload(&mut self, from: Ptr, to: Ptr, n: u32)
         requires source { n ≤ length (payload_of from self.old.row) }
         requires target { n ≤ length (payload_of to self.old.row) }

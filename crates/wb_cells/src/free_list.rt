@@ -1,5 +1,6 @@
-//! The free cells, linked in order of place: the free cells on both sides of a place, and what becomes of the list when a cell is granted,
-//! released or resized. Of live cells, only the length of the one that is released or resized is read here.
+//! The list of free cells, linked in order of place. Functions here find the free cells on both sides of a place, and change the list when
+//! a cell is granted, released or resized. The only word of a live cell that is read here is the length of the cell that is released or
+//! resized.
 
 ghost use Rattle.std.specs.Prelude.{◌≡◌, ◌≢◌, ◌+◌, ◌*◌, ◌/◌, ◌%◌, ◌<◌, ◌≤◌, ◌⊎◌, [], ◌++◌, ℕ, List, length};
 ghost use Rattle.std.specs.Prelude.{slice_index, slice_set, if◌then◌else◌, nat_eq};
@@ -13,10 +14,10 @@ use crate::layout::{self, NONE};
 use wb_basics::limits::CEILING;
 use wb_chunk::Chunk;
 
-/// The places of the free cells on both sides of a place; each is NONE if there is no such cell.
+/// The places of the free cells on both sides of a place. A value is NONE if there is no such free cell.
 #[derive(Clone, Copy, Debug)]
 pub struct Neighbours {
-    /// The last free cell below `before`, if the free cell `before` ends at the place; otherwise it need not be known.
+    /// The last free cell below `before`. This value need be right only if the free cell `before` ends at the place.
     pub prior: u32,
     /// The last free cell below the place.
     pub before: u32,
@@ -24,7 +25,7 @@ pub struct Neighbours {
     pub after: u32,
 }
 
-/// The length of the cell at a place.
+/// The length of the cell that begins at a place.
 pub fn length_at(words: &Chunk, place: u32) -> u32
     requires { place / 16 * 4 + 4 ≤ length words.now }
     ensures { result ≡ slice_index words.now (place / 16 * 4) }
@@ -32,7 +33,7 @@ pub fn length_at(words: &Chunk, place: u32) -> u32
     words.word(layout::words_in(place))
 }
 
-/// The link of the free cell at a place.
+/// The link of the free cell that begins at a place: the place of the next free cell.
 pub fn link_at(words: &Chunk, place: u32) -> u32
     requires { place / 16 * 4 + 4 ≤ length words.now }
     ensures { result ≡ slice_index words.now (place / 16 * 4 + 2) }
@@ -69,8 +70,8 @@ pub fn neighbours_of(words: &Chunk, gaps: &GapIndex, first: u32, place: u32) -> 
     }
 }
 
-/// The place of the last free cell below the free cell with index `at` (its place divided by 16), or NONE. That cell is looked for only if
-/// the one at `at` isn't the first free cell and ends at `place`.
+/// The place of the last free cell below the free cell with index `at` (its place divided by 16), or NONE. The function searches only if
+/// the free cell with index `at` isn't the first free cell and ends at `place`.
 fn prior_to(words: &Chunk, gaps: &GapIndex, first: u32, at: u32, place: u32) -> u32
     requires below { (16 * at < place) × (place < NO_PLACE) }
     requires within { 16 * at / 16 * 4 + 4 ≤ length words.now }
@@ -86,7 +87,8 @@ fn prior_to(words: &Chunk, gaps: &GapIndex, first: u32, at: u32, place: u32) -> 
     }
 }
 
-/// Makes the free cell `next` follow the free cell `before`, or makes it the first one if `before` is NONE. Returns the first free cell.
+/// Makes the free cell `next` follow the free cell `before`. If `before` is NONE, `next` becomes the first free cell. Returns the first
+/// free cell.
 pub fn link(words: &mut Chunk, first: u32, before: u32, next: u32) -> u32
     requires { before ≢ NO_PLACE → before / 16 * 4 + 4 ≤ length words.old }
     ensures first { result ≡ linked_first first before next }
@@ -100,8 +102,8 @@ pub fn link(words: &mut Chunk, first: u32, before: u32, next: u32) -> u32
     first
 }
 
-/// Splits a free cell after its first `bytes` bytes: the rest becomes a free cell of its own, unless it is empty. Returns the free cell
-/// that follows the first `bytes` bytes.
+/// Splits a free cell after its first `bytes` bytes: the rest becomes a new free cell, unless the rest is empty. Returns the next free cell
+/// after the first `bytes` bytes.
 pub fn split(words: &mut Chunk, place: u32, bytes: u32) -> u32
     requires rounded { bytes % 16 ≡ 0 }
     requires within { IsWithin words.old place }
@@ -120,15 +122,15 @@ pub fn split(words: &mut Chunk, place: u32, bytes: u32) -> u32
     place + bytes
 }
 
-/// The end of the last live cell (`top`), and the place of the first free cell (`first`), which is NONE if there is none.
+/// The end of the last live cell (`top`), and the place of the first free cell (`first`). `first` is NONE if there is no free cell.
 #[derive(Clone, Copy, Debug)]
 pub struct Ends {
     pub top: u32,
     pub first: u32,
 }
 
-/// Makes room for a cell of `bytes` bytes, at the start of a free cell or at the top. Afterwards the room isn't part of a free cell, and
-/// its words are as they were.
+/// Makes room for a cell of `bytes` bytes, at the start of a free cell or at the top. Afterwards the room isn't part of a free cell. The
+/// words in the room stay as they were.
 pub fn open(words: &mut Chunk, gaps: &GapIndex, ends: Ends, place: u32, bytes: u32) -> Ends
     requires rounded { bytes % 16 ≡ 0 }
     requires below { place + bytes ≤ CEILING }
@@ -156,14 +158,15 @@ pub fn open(words: &mut Chunk, gaps: &GapIndex, ends: Ends, place: u32, bytes: u
     }
 }
 
-/// Bytes that belong to no live cell, from the end of one live cell to the start of another, or to the top.
+/// A range of bytes that belong to no live cell. A hole reaches from the end of one live cell to the start of the next live cell, or to the
+/// top.
 #[derive(Clone, Copy, Debug)]
 pub struct Hole {
     pub start: u32,
     pub end: u32,
-    /// The last free cell below the start, or NONE.
+    /// The last free cell below the start of the hole, or NONE.
     pub before: u32,
-    /// The first free cell at the end or above it, or NONE.
+    /// The first free cell at the end of the hole or above it, or NONE.
     pub next: u32,
 }
 
@@ -191,7 +194,7 @@ pub fn hole_after(words: &Chunk, place: u32, around: Neighbours) -> Hole
     }
 }
 
-/// The hole that a live cell leaves when it is released: its bytes, and those of the free cells that touch it.
+/// The hole that a live cell leaves when it is released: the bytes of the cell, and of the free cells that touch it.
 pub fn hole_left(words: &Chunk, place: u32, around: Neighbours) -> Hole
     requires cell { IsWithin words.now place }
     requires below { around.before ≢ NO_PLACE → IsWithin words.now around.before }
@@ -208,8 +211,8 @@ pub fn hole_left(words: &Chunk, place: u32, around: Neighbours) -> Hole
     hole
 }
 
-/// Makes a hole a free cell, unless it has no bytes. If no live cell follows the hole, its start becomes the top instead; the top may then
-/// be higher than it was.
+/// Turns a hole into a free cell, unless the hole has no bytes. If no live cell follows the hole, the start of the hole instead becomes the
+/// top, which may then be higher than before.
 pub fn close(words: &mut Chunk, ends: Ends, hole: Hole) -> Ends
     requires before { hole.before ≢ NO_PLACE → hole.before / 16 * 4 + 4 ≤ length words.old }
     requires start { hole.end ≢ ends.top → hole.start ≢ hole.end →

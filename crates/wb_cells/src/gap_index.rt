@@ -1,5 +1,5 @@
-//! The lengths of the free cells, by place, and an index that finds a free cell without a walk along the links: the greatest length in each
-//! 1,024 bytes of the heap, and, over these numbers, the greatest of each 64 and of all.
+//! The lengths of the free cells, by place, and an index that finds a free cell without following the links. The index has the greatest
+//! length in each block of 1,024 bytes of the heap. It also has the greatest of these lengths for each 64 blocks, and for all blocks.
 
 ghost use Rattle.std.specs.Prelude.{◌≡◌, ◌≢◌, ◌+◌, ◌-◌, ◌/◌, ◌<◌, ◌≤◌, [], ◌++◌, length, replicate, slice_index};
 ghost use Rattle.std.specs.Prelude.{slice_set, IfOk, IsOk, OnOk, OnErr};
@@ -15,8 +15,8 @@ use std::alloc::{AllocError, Global};
 use std::marker::Model;
 use wb_basics::limits::CEILING;
 
-/// For each place of 16 bytes, the length in bytes of the free cell that begins there, or 0 if none does. This is a list that grows at its
-/// end; its indexes are places, counted in steps of 16 bytes.
+/// A list with one entry for each place of 16 bytes: the length in bytes of the free cell that begins there, or 0 if no free cell begins
+/// there. The list grows at its end. Its indexes are places, counted in steps of 16 bytes.
 #[derive(Drop)]
 pub struct GapIndex {
     lengths: Numbers,
@@ -46,7 +46,7 @@ impl GapIndex {
         }
     }
 
-    /// A copy with the same lengths, in memory of its own. `Err` if the allocator refuses memory.
+    /// Returns a copy with the same lengths, in newly allocated memory. Returns `Err` if the allocator refuses memory.
     pub fn try_copy(&self) -> Result<GapIndex, AllocError>
         ensures { IfOk result (λ copy. copy ≡ self.now) }
     {
@@ -56,8 +56,8 @@ impl GapIndex {
         })
     }
 
-    /// A copy with the same lengths, over the memory of `spare`, whose lengths are lost; that memory is made larger if need be. `Err` if
-    /// the allocator refuses memory.
+    /// Returns a copy with the same lengths, in the memory of `spare`. The lengths of `spare` are lost, and its memory is made larger if
+    /// necessary. Returns `Err` if the allocator refuses memory.
     pub fn try_copy_over(&self, spare: GapIndex) -> Result<GapIndex, AllocError>
         ensures { IfOk result (λ copy. copy ≡ self.now) }
     {
@@ -66,8 +66,8 @@ impl GapIndex {
         Ok(GapIndex { lengths, blocks })
     }
 
-    /// Appends places where no free cell begins until there are `count` places; takes no memory if there are that many already. `Err` if
-    /// the allocator refuses memory, and then the lengths are as they were.
+    /// Appends entries of 0 until there are `count` entries. The call takes no memory if there are at least `count` entries already. If the
+    /// allocator refuses memory, the call returns `Err` and leaves the lengths as they were.
     pub fn grow_to(&mut self, count: u32) -> Result<(), AllocError>
         requires { count ≤ MOST_PLACES }
         ensures grown { OnOk result (self.new ≡ self.old ++ replicate (count - length self.old) 0) }
@@ -79,7 +79,7 @@ impl GapIndex {
         Ok(())
     }
 
-    /// The length at a place; past the end it is 0.
+    /// The length at a place. For a place past the end of the list, the length is 0.
     pub fn length_at(&self, at: u32) -> u32
         ensures { result ≡ slice_index self.now at }
     {
@@ -89,7 +89,7 @@ impl GapIndex {
         self.lengths.number(at)
     }
 
-    /// Puts another length at a place.
+    /// Sets the length at a place.
     pub fn set(&mut self, at: u32, bytes: u32)
         requires { at < length self.old }
         ensures { self.new ≡ slice_set self.old at bytes }
@@ -108,8 +108,8 @@ impl GapIndex {
         }
     }
 
-    /// Records that a cell of `bytes` bytes is put at the start of the free cell at `place`: the rest of that free cell is listed instead
-    /// of it. If the cell is put at the top, no length changes. Here and in `close`, places are in bytes.
+    /// Records that a cell of `bytes` bytes is put at the start of the free cell at `place`. The list then has the rest of this free cell
+    /// instead of the whole free cell. If the cell is put at the top, no length changes. In `open` and `close`, places are in bytes.
     pub fn open(&mut self, top: u32, place: u32, bytes: u32)
         requires below { place + bytes ≤ CEILING }
         requires start { place ≢ top → place / 16 < length self.old }
@@ -124,8 +124,8 @@ impl GapIndex {
         self.shift(place / 16, (place + bytes) / 16, rest);
     }
 
-    /// Lists a hole as a free cell, instead of the free cell that began at `end`, the end of a live cell. A hole that ends at the top
-    /// becomes part of the space above the top instead, so that no free cell begins at its start.
+    /// Records a hole as a free cell, in place of any free cell that began at `end`, which is the end of a live cell. A hole that ends at
+    /// the top instead becomes part of the space above the top; then no free cell begins at the start of the hole.
     pub fn close(&mut self, top: u32, end: u32, hole: Hole)
         requires end { hole.end ≢ top → end / 16 < length self.old }
         requires start { hole.end ≢ top → hole.start / 16 < length self.old }
@@ -140,7 +140,7 @@ impl GapIndex {
     }
 
     /// Records that the free cell that began at `from` now begins at `to` and has `bytes` bytes. The length at `to` is set first: if it is
-    /// then the greatest of its block, the block isn't searched for another.
+    /// then the greatest length of its block, the block isn't searched for another greatest length.
     fn shift(&mut self, from: u32, to: u32, bytes: u32)
         requires from { from < length self.old }
         requires to { to < length self.old }
@@ -152,7 +152,7 @@ impl GapIndex {
         }
     }
 
-    /// Records that no free cell begins at a place. Past the end of the list, none did before.
+    /// Records that no free cell begins at a place. For a place past the end of the list, there is nothing to record.
     fn clear(&mut self, at: u32)
         ensures { self.new ≡ slice_set self.old at 0 }
     {
@@ -161,7 +161,7 @@ impl GapIndex {
         }
     }
 
-    /// The first place with a length of at least `bytes` bytes, or `None`.
+    /// Returns the first place with a length of at least `bytes` bytes; `None` if there is no such place.
     pub fn first_long(&self, bytes: u32) -> Option<u32>
         requires { 0 < bytes }
         ensures { IsFirstLong (slice_index self.now) bytes result }
@@ -171,7 +171,7 @@ impl GapIndex {
         maxima::first_among(&self.lengths, places, places + SPAN, bytes)
     }
 
-    /// The last place below `at` where a free cell begins, or `None`.
+    /// Returns the last place below `at` where a free cell begins; `None` if there is no such place.
     pub fn last_below(&self, at: u32) -> Option<u32>
         ensures { IsLast (slice_index self.now) 0 at result }
     {

@@ -1,5 +1,5 @@
-//! How a header is laid out in four words: the cell length, the state, the level, the allocation number. In a free cell, the state and the
-//! number are 0, and the place of the next free cell stands where a live cell has its level.
+//! How a header is laid out in four words: the cell length, the state, the level and the allocation number. In a free cell, the state and
+//! the number are 0, and the word for the level has the place of the next free cell.
 
 ghost use Rattle.std.specs.Prelude.{◌≡◌, ◌+◌, ◌*◌, ◌/◌, ◌<◌, ◌≤◌, ◌-◌, [], ◌∷◌, ◌++◌, length, drop, replicate};
 ghost use Rattle.std.specs.Prelude.{slice_index, Some, IsOk, OnOk, OnErr};
@@ -12,10 +12,11 @@ use std::alloc::AllocError;
 use wb_chunk::{Chunk, MOST_WORDS};
 use wb_heap_model::heap::{Header, Kind};
 
-/// The link of the last free cell, which says that no other follows.
+/// The link of the last free cell, which says that no other free cell follows.
 pub const NONE: u32 = 0xffff_ffff;
 
-/// How many words `bytes` bytes hold, counting only whole places of 16 bytes. For a place, this is the index of its first word.
+/// How many words `bytes` bytes have, counting only whole places of 16 bytes. If `bytes` is a place, this is the index of the first word at
+/// that place.
 pub fn words_in(bytes: u32) -> u32
     ensures { result ≡ bytes / 16 * 4 }
 {
@@ -42,7 +43,7 @@ pub fn state_of(kind: Kind) -> u32
     }
 }
 
-/// The kind that a state word spells.
+/// The kind that a state word encodes.
 pub fn kind_of(state: u32) -> Kind
     requires { IsState state }
     ensures { kind_of state ≡ Some result }
@@ -55,7 +56,7 @@ pub fn kind_of(state: u32) -> Kind
     }
 }
 
-/// The header that the four words at a place spell.
+/// The header that the four words at a place encode.
 pub fn header_at(words: &Chunk, place: u32) -> Header
     requires within { place / 16 * 4 + 4 ≤ length words.now }
     requires live { IsState (slice_index words.now (place / 16 * 4 + 1)) }
@@ -71,7 +72,7 @@ pub fn header_at(words: &Chunk, place: u32) -> Header
     }
 }
 
-/// Writes the four words of a header.
+/// Writes the four words of the header at a place.
 pub fn write_header(words: &mut Chunk, place: u32, bytes: u32, state: u32, link: u32, number: u32)
     requires { place / 16 * 4 + 4 ≤ length words.old }
     ensures count { length words.new ≡ length words.old }
@@ -81,8 +82,8 @@ pub fn write_header(words: &mut Chunk, place: u32, bytes: u32, state: u32, link:
     words.set_four(words_in(place), [bytes, state, link, number]);
 }
 
-/// Appends words that are 0 until there are `count` words; takes no memory if there are that many already. `Err` if the allocator refuses
-/// memory, and then the words are as they were.
+/// Appends words that are 0 until there are `count` words. The call takes no memory if there are at least `count` words already. If the
+/// allocator refuses memory, the call returns `Err` and leaves the words as they were.
 pub fn grow_to(words: &mut Chunk, count: u32) -> Result<(), AllocError>
     requires { count ≤ MOST_WORDS }
     ensures grown { OnOk result (words.new ≡ words.old ++ replicate (count - length words.old) 0) }
@@ -95,7 +96,7 @@ pub fn grow_to(words: &mut Chunk, count: u32) -> Result<(), AllocError>
     words.grow(count - words.words())
 }
 
-/// Zeroes the `n` words from index `i` on. If `n` is 0, the chunk isn't called.
+/// Sets the `n` words from index `i` on to 0. If `n` is 0, the function doesn't call the chunk.
 pub fn zero(words: &mut Chunk, i: u32, n: u32)
     requires { i + n ≤ length words.old }
     ensures { words.new ≡ replace_range words.old i (i + n) (replicate n 0) }

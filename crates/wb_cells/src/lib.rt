@@ -1,4 +1,4 @@
-//! Cells end to end in a chunk of words: headers, payloads, and the free cells linked in order of place.
+//! Cells that lie end to end in a chunk of words: headers, payloads, and the free cells, which are linked in order of place.
 #![tactic(auto)]
 
 pub use cells::Cells;

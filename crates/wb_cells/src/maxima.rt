@@ -1,4 +1,4 @@
-//! The greatest of each 64 numbers of a list, and searches among the numbers. What the numbers mean is not said here.
+//! The greatest of each 64 numbers of a list, and searches among the numbers. The callers decide what the numbers mean.
 
 ghost use Rattle.std.specs.Prelude.{◌≡◌, ◌≢◌, ℕ, ◌+◌, ◌*◌, ◌/◌, ◌<◌, ◌≤◌, length, slice_index, IfNone, IfSome};
 ghost use Rattle.wb_cells.specs.Maxima.{AreGreatest, IsFirst, IsGreatest};
@@ -6,10 +6,11 @@ ghost use Rattle.wb_cells.specs.Maxima.{AreGreatest, IsFirst, IsGreatest};
 use crate::numbers::Numbers;
 use wb_chunk::MOST_WORDS;
 
-/// How many numbers make a span, whose greatest number is kept.
+/// How many numbers a span has. The greatest number of each span is stored.
 pub const SPAN: u32 = 64;
 
-/// The index of the first number that is at least `least`, from index `from` on and below `end`, or `None`.
+/// Returns the index of the first number that is at least `least`, at index `from` or above and below `end`; `None` if there is no such
+/// number.
 pub fn first_among(numbers: &Numbers, from: u32, end: u32, least: u32) -> Option<u32>
     requires { 0 < least }
     ensures { IsFirst (slice_index numbers.now) from end least result }
@@ -27,8 +28,8 @@ pub fn first_among(numbers: &Numbers, from: u32, end: u32, least: u32) -> Option
     None
 }
 
-/// The greatest number from index `from` on and below `end`, or 0 if there is none. The caller knows that no number there is greater than
-/// `most`, so the search ends at a number that is equal to `most`.
+/// Returns the greatest number at index `from` or above and below `end`; 0 if there is no number there. The caller must know that no number
+/// there is greater than `most`, so the search can stop at a number that is equal to `most`.
 fn greatest_among(numbers: &Numbers, from: u32, end: u32, most: u32) -> u32
     ensures { ((k : ℕ) → from ≤ k → k < end → slice_index numbers.now k ≤ most)
         → IsGreatest (slice_index numbers.now) from end result }
@@ -45,8 +46,8 @@ fn greatest_among(numbers: &Numbers, from: u32, end: u32, most: u32) -> u32
     greatest
 }
 
-/// Brings the greatest number of a span up to date, after the number at index `at` has changed from `old`. Returns what the span's greatest
-/// number was if it has changed, or `None`.
+/// Updates the greatest number of a span, after the number at index `at` has changed from `old`. If the greatest number has changed, the
+/// function returns its old value; otherwise it returns `None`.
 pub fn renew(numbers: &Numbers, spans: &mut Numbers, at: u32, old: u32) -> Option<u32>
     requires within { at < length numbers.now }
     requires room { at / SPAN < length spans.old }
@@ -70,8 +71,9 @@ pub fn renew(numbers: &Numbers, spans: &mut Numbers, at: u32, old: u32) -> Optio
     Some(was)
 }
 
-/// The greatest number from index `from` on and below `end`, after the number at index `at` between them has changed from `old`; the
-/// greatest was `was`. The numbers are searched only if the one that changed was the greatest and is less now.
+/// Returns the greatest number at index `from` or above and below `end`, after the number at index `at` in this range has changed from
+/// `old`. Before the change, the greatest number was `was`. The function searches the numbers only if the changed number was the greatest
+/// and is now less.
 pub fn greatest_now(numbers: &Numbers, from: u32, end: u32, was: u32, at: u32, old: u32) -> u32
     requires within { at < length numbers.now }
     requires between { (from ≤ at) × (at < end) }

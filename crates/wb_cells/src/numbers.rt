@@ -14,7 +14,7 @@ use wb_chunk::Chunk;
 #[derive(Drop)]
 pub struct Numbers {
     words: Chunk,
-    /// For each number, whether it differs from 0; so a search for one that does looks at 32 numbers at a time.
+    /// For each number, whether it differs from 0. So a search for a number that isn't 0 looks at 32 numbers at a time.
     marks: Bits,
 }
 
@@ -40,7 +40,7 @@ impl Numbers {
         }
     }
 
-    /// A copy with the same numbers, in memory of its own. `Err` if the allocator refuses memory.
+    /// Returns a copy with the same numbers, in newly allocated memory. Returns `Err` if the allocator refuses memory.
     pub fn try_copy(&self) -> Result<Numbers, AllocError>
         ensures { IfOk result (λ copy. copy ≡ self.now) }
     {
@@ -50,8 +50,8 @@ impl Numbers {
         })
     }
 
-    /// A copy with the same numbers, over the memory of `spare`, whose numbers are lost; that memory is made larger if need be. `Err` if
-    /// the allocator refuses memory.
+    /// Returns a copy with the same numbers, in the memory of `spare`. The numbers of `spare` are lost, and its memory is made larger if
+    /// necessary. Returns `Err` if the allocator refuses memory.
     pub fn try_copy_over(&self, spare: Numbers) -> Result<Numbers, AllocError>
         ensures { IfOk result (λ copy. copy ≡ self.now) }
     {
@@ -60,8 +60,8 @@ impl Numbers {
         Ok(Numbers { words, marks })
     }
 
-    /// Appends numbers that are 0 until there are `count` numbers; takes no memory if there are that many already. `Err` if the allocator
-    /// refuses memory, and then the numbers are as they were.
+    /// Appends numbers that are 0 until there are `count` numbers. The call takes no memory if there are at least `count` numbers already.
+    /// If the allocator refuses memory, the call returns `Err` and leaves the numbers as they were.
     pub fn grow_to(&mut self, count: u32) -> Result<(), AllocError>
         requires { count ≤ MOST_PLACES }
         ensures grown { OnOk result (self.new ≡ self.old ++ replicate (count - length self.old) 0) }
@@ -88,7 +88,7 @@ impl Numbers {
         self.words.word(at)
     }
 
-    /// Puts another number at an index.
+    /// Sets the number at an index.
     pub fn set(&mut self, at: u32, number: u32)
         requires { at < length self.old }
         ensures { self.new ≡ slice_set self.old at number }
@@ -100,14 +100,14 @@ impl Numbers {
         }
     }
 
-    /// The index of the first number that is not 0, from index `from` on, or `None`.
+    /// Returns the index of the first number that is not 0, at index `from` or above; `None` if there is no such number.
     pub fn next(&self, from: u32) -> Option<u32>
         ensures { IsFirst (slice_index self.now) from (length self.now) 1 result }
     {
         self.marks.next(from)
     }
 
-    /// The index of the last number that is not 0, from index `from` on and below `end`, or `None`.
+    /// Returns the index of the last number that is not 0, at index `from` or above and below `end`; `None` if there is no such number.
     pub fn last(&self, from: u32, end: u32) -> Option<u32>
         ensures { IsLast (slice_index self.now) from end result }
     {

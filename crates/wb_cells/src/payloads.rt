@@ -10,7 +10,7 @@ use crate::layout;
 use wb_heap_model::heap::Ptr;
 
 impl Cells {
-    /// Zeroes the `n` halves of a payload from index `i` on, and changes nothing else.
+    /// Sets the `n` halves of a payload from index `i` on to 0, and changes nothing else.
     pub fn zero_halves(&mut self, ptr: Ptr, i: u32, n: u32)
         requires live { IsSome (cell_at ptr self.old.row) }
         requires within { i + n ≤ 2 * length (payload_of ptr self.old.row) }
@@ -24,7 +24,7 @@ impl Cells {
             .zero_halves(2 * layout::payload_at(ptr.place) + i, n);
     }
 
-    /// Writes halves into a payload, from index `i` on, and changes nothing else.
+    /// Writes `halves` into a payload, from index `i` on, and changes nothing else.
     pub fn write_halves(&mut self, ptr: Ptr, i: u32, halves: &[u16])
         requires live { IsSome (cell_at ptr self.old.row) }
         requires within { i + length halves.now ≤ 2 * length (payload_of ptr self.old.row) }
@@ -38,8 +38,8 @@ impl Cells {
             .write_halves(2 * layout::payload_at(ptr.place) + i, halves);
     }
 
-    /// Copies `n` halves of the payload of `from`, from index `fi` on, into the payload of `to`, from index `ti` on, as if all halves had
-    /// been read before any was written. `to` may be the same cell.
+    /// Copies `n` halves from the payload of `from` into the payload of `to`. The source starts at index `fi`, and the target starts at
+    /// index `ti`. The result is as if all halves were read before any half was written. `to` may be the same cell as `from`.
     pub fn copy_halves(&mut self, from: Ptr, fi: u32, to: Ptr, ti: u32, n: u32)
         requires from_live { IsSome (cell_at from self.old.row) }
         requires to_live { IsSome (cell_at to self.old.row) }

@@ -1,4 +1,4 @@
-//! A list of numbers, with the greatest of each 64 and the greatest of all. What the numbers mean is not said here.
+//! A list of numbers, with the greatest of each 64 numbers and the greatest of all numbers. The callers decide what the numbers mean.
 
 ghost use Rattle.std.specs.Prelude.{◌≡◌, ◌-◌, ◌<◌, ◌≤◌, [], ◌++◌, length, replicate, slice_index, slice_set, IfOk, IsOk};
 ghost use Rattle.std.specs.Prelude.{OnOk, OnErr};
@@ -43,7 +43,7 @@ impl Ranked {
         }
     }
 
-    /// A copy with the same numbers, in memory of its own. `Err` if the allocator refuses memory.
+    /// Returns a copy with the same numbers, in newly allocated memory. Returns `Err` if the allocator refuses memory.
     pub fn try_copy(&self) -> Result<Ranked, AllocError>
         ensures { IfOk result (λ copy. copy ≡ self.now) }
     {
@@ -54,8 +54,8 @@ impl Ranked {
         })
     }
 
-    /// Appends numbers that are 0 until there are `count` numbers; takes no memory if there are that many already. `Err` if the allocator
-    /// refuses memory, and then the numbers are as they were.
+    /// Appends numbers that are 0 until there are `count` numbers. The call takes no memory if there are at least `count` numbers already.
+    /// If the allocator refuses memory, the call returns `Err` and leaves the numbers as they were.
     pub fn grow_to(&mut self, count: u32) -> Result<(), AllocError>
         requires { count ≤ MOST_PLACES }
         ensures grown { OnOk result (self.new ≡ self.old ++ replicate (count - length self.old) 0) }
@@ -75,7 +75,7 @@ impl Ranked {
         self.numbers.number(at)
     }
 
-    /// Puts another number at an index.
+    /// Sets the number at an index.
     pub fn set(&mut self, at: u32, number: u32)
         requires { at < length self.old }
         ensures { self.new ≡ slice_set self.old at number }
@@ -91,7 +91,7 @@ impl Ranked {
         self.greatest = greatest;
     }
 
-    /// The index of the first number that is at least `least`, or `None`.
+    /// Returns the index of the first number that is at least `least`; `None` if there is no such number.
     pub fn first_long(&self, least: u32) -> Option<u32>
         requires { 0 < least }
         ensures { IsFirstLong (slice_index self.now) least result }
@@ -104,7 +104,7 @@ impl Ranked {
         maxima::first_among(&self.numbers, first, first + SPAN, least)
     }
 
-    /// The index of the last number that is not 0, below index `at`, or `None`.
+    /// Returns the index of the last number that is not 0, below index `at`; `None` if there is no such number.
     pub fn last_below(&self, at: u32) -> Option<u32>
         ensures { IsLast (slice_index self.now) 0 at result }
     {

@@ -1,4 +1,4 @@
-//! How a region is filled, and by how much it grows: plain code over a region's own calls.
+//! How a region is filled, and by how much a region grows: plain code that uses only a region's own functions.
 
 ghost use Rattle.std.specs.Prelude.{◌≡◌, ◌+◌, ◌*◌, ◌≤◌, ◌++◌, length, max, min, replicate, OnOk, OnErr};
 ghost use Rattle.wb_chunk.specs.Fields.{HasRoom, words_of};
@@ -9,7 +9,7 @@ use crate::marks::BLOCK;
 use crate::region::Region;
 use std::alloc::{AllocError, Global};
 
-/// Appends words to the `count` words of a region.
+/// Appends `words` after the `count` words of a region.
 fn append_words(region: &mut Region<Global>, count: u32, words: &[u32])
     requires fits { (count ≡ length region.old.words)
         × (count + length words.now ≤ region.old.capacity) }
@@ -25,7 +25,7 @@ fn append_words(region: &mut Region<Global>, count: u32, words: &[u32])
     }
 }
 
-/// Writes these words into a region that has none. Words of a block without a mark are 0, and needn't be read.
+/// Writes `words` into a region that has no words. If a block has no mark, all its words are 0, so the function doesn't read them.
 pub(crate) fn append_marked(region: &mut Region<Global>, words: &[u32], marks: &[bool])
     requires fits { (length region.old.words ≡ 0) × (length words.now ≤ region.old.capacity) }
     requires bound { region.old.capacity ≤ MOST_WORDS }
@@ -59,8 +59,8 @@ fn append_zeros(region: &mut Region<Global>, count: u32, n: u32)
     }
 }
 
-/// Does what `append_zeros` does, for a region that is passed by value. The region is then a local variable whose fields are read once, so
-/// that many words are written at a time.
+/// Does what `append_zeros` does, for a region that is passed by value. The region is then a local variable, so the compiled code reads its
+/// fields once and writes many words at a time.
 fn with_zeros(mut region: Region<Global>, count: u32, n: u32) -> Region<Global>
     requires fits { (count ≡ length region.words) × (count + n ≤ region.capacity) }
     requires bound { region.capacity ≤ MOST_WORDS }
@@ -93,8 +93,8 @@ pub(crate) fn extend(
     }
 }
 
-/// Makes room for `wanted` words instead of `capacity` words. The words stay as they are: for a large block, the operating system moves the
-/// pages, and no word is copied. On `Err` nothing has changed.
+/// Makes room for `wanted` words instead of `capacity` words. The words keep their values. For a large block, the operating system moves
+/// the pages instead of copying the words. If `make_room` returns `Err`, nothing has changed.
 pub(crate) fn make_room(
     region: &mut Option<Region<Global>>,
     alloc: &Global,
@@ -119,7 +119,7 @@ pub(crate) fn make_room(
     Ok(())
 }
 
-/// How many words the next region has room for: twice `capacity` but no more than [`MOST_WORDS`], or `wanted` if that is more.
+/// How many words the next region has room for: `wanted`, or twice `capacity` if this is more, but at most [`MOST_WORDS`].
 pub(crate) fn larger(capacity: u32, wanted: u32) -> u32
     requires { (capacity ≤ MOST_WORDS) × (wanted ≤ MOST_WORDS) }
     ensures room { (wanted ≤ result) × (min (2 * capacity) MOST_WORDS ≤ result) }

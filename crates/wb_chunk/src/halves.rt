@@ -1,5 +1,5 @@
-//! Halves of words, read and written one by one and many at once: plain code over the words. Many halves are read and written as whole
-//! words, except for single halves at the ends of the range. Indexes count halves.
+//! Reads and writes halves of words, one or many at a time. A range of halves is read and written in whole words, except for a single half
+//! at either end of the range. Indexes count halves.
 
 ghost use Rattle.std.specs.Prelude.{◌≡◌, ◌+◌, ◌*◌, ◌%◌, ◌^◌, ◌<◌, ◌≤◌, length, replicate};
 ghost use Rattle.std.specs.List.{All};
@@ -22,7 +22,7 @@ pub(crate) fn half(words: &[u32], i: usize) -> u16
     }
 }
 
-/// Puts another half at index `i`, and leaves the other half of the word as it is.
+/// Sets the half at index `i` to `v`, and leaves the other half of the word as it is.
 pub(crate) fn set_half(words: &mut [u32], i: usize, v: u16)
     requires { i < 2 * length words.old }
     ensures { words.new ≡ with_half words.old i v }
@@ -35,7 +35,7 @@ pub(crate) fn set_half(words: &mut [u32], i: usize, v: u16)
     };
 }
 
-/// Zeroes the `n` halves from index `i` on, as [`marks::zero`] does with words.
+/// Sets the `n` halves from index `i` on to 0, as [`marks::zero`] does with words.
 #[tactic(auto, using(crate::proofs::MarkedWords::marked_zero_half))]
 pub(crate) fn zero(words: &mut [u32], marks: &mut [bool], i: usize, n: usize)
     requires within { i + n ≤ 2 * length words.old }
@@ -52,7 +52,7 @@ pub(crate) fn zero(words: &mut [u32], marks: &mut [bool], i: usize, n: usize)
     }
 }
 
-/// Does what `zero` does, from an index at which a word begins.
+/// Does what `zero` does, if a word begins at index `i`.
 #[tactic(auto, using(crate::proofs::MarkedWords::marked_zero_half))]
 fn zero_from_word(words: &mut [u32], marks: &mut [bool], i: usize, n: usize)
     requires even { i % 2 ≡ 0 }
@@ -81,7 +81,7 @@ pub(crate) fn write(words: &mut [u32], i: usize, halves: &[u16])
     }
 }
 
-/// Does what `write` does, from an index at which a word begins.
+/// Does what `write` does, if a word begins at index `i`.
 fn write_from_word(words: &mut [u32], i: usize, halves: &[u16])
     requires even { i % 2 ≡ 0 }
     requires within { i + length halves.now ≤ 2 * length words.old }
@@ -96,7 +96,8 @@ fn write_from_word(words: &mut [u32], i: usize, halves: &[u16])
     }
 }
 
-/// Copies `n` halves from index `from` to index `to`, as if all halves had been read before any was written.
+/// Copies the `n` halves that start at index `from` to the range that starts at index `to`. The result is as if all halves were read before
+/// any half was written.
 pub(crate) fn copy(words: &mut [u32], from: usize, to: usize, n: usize)
     requires fit { All (λ w. w < 2 ^ 32) words.old }
     requires source { from + n ≤ 2 * length words.old }
@@ -112,7 +113,7 @@ pub(crate) fn copy(words: &mut [u32], from: usize, to: usize, n: usize)
     }
 }
 
-/// Does what `copy` does, to an index at which a word begins.
+/// Does what `copy` does, if a word begins at index `to`.
 fn copy_to_word(words: &mut [u32], from: usize, to: usize, n: usize)
     requires even { to % 2 ≡ 0 }
     requires fit { All (λ w. w < 2 ^ 32) words.old }
@@ -129,7 +130,7 @@ fn copy_to_word(words: &mut [u32], from: usize, to: usize, n: usize)
     }
 }
 
-/// Copies `n` pairs of halves, from half `from` on, to the words from word `to` on.
+/// Copies `n` pairs of halves. The pairs begin at half `from`, and each pair becomes one word, from word `to` on.
 fn copy_pairs(words: &mut [u32], from: usize, to: usize, n: usize)
     requires fit { All (λ w. w < 2 ^ 32) words.old }
     requires source { from + 2 * n ≤ 2 * length words.old }

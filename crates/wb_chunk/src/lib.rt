@@ -1,7 +1,7 @@
 //! A list of 32-bit words in one region of memory, which the list owns and frees once.
 //!
-//! This file has the list, in plain code over the region; `region.rt` has the region, and no other file follows a raw pointer. What words
-//! mean is said in the crates above.
+//! This file has the list, as plain code that uses the region. Only `region.rt`, which has the region, follows a raw pointer. The crates
+//! that use this crate give the words their meaning.
 #![tactic(auto)]
 
 ghost use Rattle.std.specs.Prelude.{◌≡◌, ◌+◌, ◌*◌, ◌^◌, ◌<◌, ◌≤◌, [], ◌++◌, true, length, replicate, slice_index, slice_set};
@@ -27,13 +27,13 @@ mod region;
 /// The most words that a chunk can have: 16,777,216 bytes, the ceiling of a simulated heap.
 pub const MOST_WORDS: u32 = 4_194_304;
 
-/// A list of words, which grows at its end and never shrinks. Contracts see a list of numbers, each below 2^32, of which there are at most
-/// [`MOST_WORDS`]. Indexes of words begin at 0.
+/// A list of words, which grows at its end and never shrinks. Contracts see a chunk as a list of at most [`MOST_WORDS`] numbers, each below
+/// 2^32. Indexes of words begin at 0.
 pub struct Chunk {
     region: Option<Region<Global>>,
     count: u32,
     capacity: u32,
-    /// For each block of words that the region has room for, whether the block may hold anything but zeros.
+    /// For each block of words that the region has room for: whether the block may hold a word other than 0.
     marks: Vec<bool>,
     alloc: Global,
 }
@@ -78,8 +78,8 @@ impl Chunk {
         }
     }
 
-    /// How many words there are. A caller's proof learns from this call that they are at most [`MOST_WORDS`], and that each fits into 32
-    /// bits.
+    /// How many words there are. From this call, a caller's proof learns that there are at most [`MOST_WORDS`] words, and that each word
+    /// fits into 32 bits.
     pub fn words(&self) -> u32
         ensures count { result ≡ length self.now }
         ensures most { length self.now ≤ MOST_WORDS }
@@ -89,9 +89,9 @@ impl Chunk {
         words.len() as u32
     }
 
-    /// Appends `n` words that are 0. `Err` if the allocator refuses memory, and then the chunk is as it was; if `n` is 0, the call always
-    /// succeeds. A region that has to grow doubles, or gets the length that is wanted if that is more, so that many small growths together
-    /// cost only in proportion to the words that they append.
+    /// Appends `n` words that are 0. If the allocator refuses memory, `grow` returns `Err` and leaves the chunk as it was. If `n` is 0, the
+    /// call always succeeds. A region that has to grow doubles its room, or grows to the room that is needed if that is more. So the total
+    /// cost of many small calls is only proportional to the number of words that these calls append.
     #[tactic(auto, using(crate::proofs::MarkedWords::marked_longer))]
     pub fn grow(&mut self, n: u32) -> Result<(), AllocError>
         requires { length self.old + n ≤ MOST_WORDS }
@@ -121,8 +121,8 @@ impl Chunk {
         Ok(())
     }
 
-    /// A copy with the same words, in memory of its own: no change to the copy or to the original changes the other. `Err` if the allocator
-    /// refuses memory.
+    /// Returns a copy with the same words, in newly allocated memory. A later change to the copy doesn't change the original, and a later
+    /// change to the original doesn't change the copy. Returns `Err` if the allocator refuses memory.
     pub fn try_copy(&self) -> Result<Chunk, AllocError>
         ensures { IfOk result (λ copy. copy ≡ self.now) }
     {
@@ -141,8 +141,9 @@ impl Chunk {
         })
     }
 
-    /// A copy with the same words, over the memory of `spare`, whose words are lost; that memory is made larger if the words don't fit.
-    /// Only blocks that may differ are written: those with a mark in this chunk or in `spare`. `Err` if the allocator refuses memory.
+    /// Returns a copy with the same words, in the memory of `spare`. The words of `spare` are lost, and its memory is made larger if the
+    /// copy doesn't fit. Only blocks that may differ are written: blocks with a mark in this chunk or in `spare`. Returns `Err` if the
+    /// allocator refuses memory.
     pub fn try_copy_over(&self, mut spare: Chunk) -> Result<Chunk, AllocError>
         ensures { IfOk result (λ copy. copy ≡ self.now) }
     {
@@ -170,7 +171,7 @@ impl Chunk {
         self.as_slice()[i as usize]
     }
 
-    /// Puts another word at index `i`.
+    /// Sets the word at index `i` to `v`.
     pub fn set_word(&mut self, i: u32, v: u32)
         requires { i < length self.old }
         ensures { self.new ≡ slice_set self.old i v }
@@ -181,7 +182,7 @@ impl Chunk {
         }
     }
 
-    /// Puts four words at the indexes from `i` on, in one write, and changes nothing else.
+    /// Sets the four words from index `i` on to `four`, in one write, and changes nothing else.
     pub fn set_four(&mut self, i: u32, four: [u32; 4])
         requires { i + 4 ≤ length self.old }
         ensures { self.new ≡ replace_range self.old i (i + 4) four }
@@ -193,7 +194,8 @@ impl Chunk {
         }
     }
 
-    /// The half at index `i`, where indexes count halves of 16 bits: half 2k is the low half of word k, and half 2k + 1 is its high half.
+    /// The half at index `i`. Indexes count halves of 16 bits: half 2k is the low half of word k, and half 2k + 1 is the high half of word
+    /// k.
     pub fn half(&self, i: u32) -> u16
         requires { i < 2 * length self.now }
         ensures { result ≡ half_of self.now i }
@@ -201,7 +203,7 @@ impl Chunk {
         halves::half(self.as_slice(), i as usize)
     }
 
-    /// Puts another half at index `i`, where indexes count halves, and leaves the other half of the word as it is.
+    /// Sets the half at index `i` to `v`, and leaves the other half of the word as it is. Indexes count halves.
     pub fn set_half(&mut self, i: u32, v: u16)
         requires { i < 2 * length self.old }
         ensures { self.new ≡ with_half self.old i v }
@@ -212,7 +214,7 @@ impl Chunk {
         }
     }
 
-    /// Zeroes the `n` halves from index `i` on, where indexes count halves, and changes nothing else.
+    /// Sets the `n` halves from index `i` on to 0, and changes nothing else. Indexes count halves.
     pub fn zero_halves(&mut self, i: u32, n: u32)
         requires { i + n ≤ 2 * length self.old }
         ensures { self.new ≡ with_halves self.old i (replicate n 0) }
@@ -223,7 +225,7 @@ impl Chunk {
         }
     }
 
-    /// Writes halves from index `i` on, where indexes count halves, and changes nothing else.
+    /// Writes `halves` from index `i` on, and changes nothing else. Indexes count halves.
     pub fn write_halves(&mut self, i: u32, halves: &[u16])
         requires { i + length halves.now ≤ 2 * length self.old }
         ensures { self.new ≡ with_halves self.old i halves.now }
@@ -236,8 +238,8 @@ impl Chunk {
         marks::mark(self.marks.as_mut_slice(), i as usize / 2, end.div_ceil(2));
     }
 
-    /// Copies `n` halves from index `from` to index `to`, as if all halves had been read before any was written: the two ranges may
-    /// overlap. Indexes count halves.
+    /// Copies the `n` halves that start at index `from` to the range that starts at index `to`. The two ranges may overlap: the result is
+    /// as if all halves were read before any half was written. Indexes count halves.
     pub fn copy_halves(&mut self, from: u32, to: u32, n: u32)
         requires source { from + n ≤ 2 * length self.old }
         requires target { to + n ≤ 2 * length self.old }
@@ -252,7 +254,7 @@ impl Chunk {
         marks::mark(self.marks.as_mut_slice(), to as usize / 2, end.div_ceil(2));
     }
 
-    /// Zeroes the `n` words from index `i` on.
+    /// Sets the `n` words from index `i` on to 0.
     pub fn zero(&mut self, i: u32, n: u32)
         requires { i + n ≤ length self.old }
         ensures { self.new ≡ replace_range self.old i (i + n) (replicate n 0) }
@@ -263,7 +265,8 @@ impl Chunk {
         }
     }
 
-    /// Copies `n` words from index `from` to index `to`, as if all words had been read before any was written: the two ranges may overlap.
+    /// Copies the `n` words that start at index `from` to the range that starts at index `to`. The two ranges may overlap: the result is as
+    /// if all words were read before any word was written.
     #[tactic(auto, using(crate::proofs::MovedWords::moved_range))]
     pub fn copy(&mut self, from: u32, to: u32, n: u32)
         requires source { from + n ≤ length self.old }
@@ -278,8 +281,8 @@ impl Chunk {
         }
     }
 
-    /// Whether the `n` words from index `i` on are equal to the words at the same indexes of another chunk. Blocks that are known to be
-    /// zeros in both chunks aren't read.
+    /// Whether the `n` words from index `i` on are equal to the words at the same indexes of another chunk. A block is not read if both
+    /// chunks are known to have only zeros there.
     pub fn has_words_of(&self, other: &Chunk, i: u32, n: u32) -> bool
         requires within { i + n ≤ length self.now }
         requires other_within { i + n ≤ length other.now }

@@ -1,5 +1,5 @@
-//! Which blocks of a chunk may hold anything but zeros: a mark for each block of 1,024 bytes. A block without a mark is known to hold
-//! zeros, so it isn't zeroed again, read to be copied, or overwritten with zeros.
+//! Marks that say which blocks of a chunk may hold a word other than 0. A block has 1,024 bytes. A block without a mark is known to hold
+//! only zeros, so the code needn't zero it again, and needn't read it to copy it.
 
 ghost use Rattle.std.specs.Prelude.{◌≡◌, ◌+◌, ◌*◌, ◌<◌, ◌≤◌, true, length, replicate};
 ghost use Rattle.std.specs.List.{replace_range};
@@ -10,7 +10,7 @@ use crate::next_marks::{next_in_either, next_marked};
 /// How many words a block has.
 pub(crate) const BLOCK: usize = 256;
 
-/// Marks the block of the word at index `i`.
+/// Sets the mark of the block that contains word `i`.
 pub(crate) fn mark_one(marks: &mut [bool], i: usize)
     requires { i < BLOCK * length marks.old }
     ensures { MarksToo marks.old marks.new i (i + 1) }
@@ -18,7 +18,7 @@ pub(crate) fn mark_one(marks: &mut [bool], i: usize)
     marks[i / BLOCK] = true;
 }
 
-/// Marks the blocks of the words from index `first` on and below `end`.
+/// Sets the mark of each block that contains a word with an index from `first` on and below `end`.
 pub(crate) fn mark(marks: &mut [bool], first: usize, end: usize)
     requires { end ≤ BLOCK * length marks.old }
     ensures { MarksToo marks.old marks.new first end }
@@ -28,7 +28,7 @@ pub(crate) fn mark(marks: &mut [bool], first: usize, end: usize)
     }
 }
 
-/// Zeroes the `n` words from index `i` on. Only marked blocks are written, and blocks that are zeroed as a whole lose their mark.
+/// Sets the `n` words from index `i` on to 0. Only blocks with a mark are written. A block that is zeroed as a whole loses its mark.
 #[tactic(auto, using(crate::proofs::MarkedWords::range_zeroed))]
 pub(crate) fn zero(words: &mut [u32], marks: &mut [bool], i: usize, n: usize)
     requires within { i + n ≤ length words.old }
@@ -49,8 +49,8 @@ pub(crate) fn zero(words: &mut [u32], marks: &mut [bool], i: usize, n: usize)
     }
 }
 
-/// Overwrites the words with the words of `source`, of which there are equally many, with marks of their own. Only blocks with a mark in
-/// one of the two lists are written. Afterwards the words have the marks of `source`, and no block after the words has a mark.
+/// Overwrites `words` with the words of `source`, which has the same length. Only blocks with a mark in `marks` or in `source_marks` are
+/// written. Afterwards each block of `words` has its mark from `source_marks`, and no block after `words` has a mark.
 pub(crate) fn overwrite(
     words: &mut [u32],
     marks: &mut [bool],
@@ -82,8 +82,8 @@ pub(crate) fn overwrite(
     marks[blocks..].fill(false);
 }
 
-/// Whether the words from index `first` on and below `end` are equal to those of another list. The loop doesn't end at a difference, so
-/// that many words are read at once.
+/// Whether `words` and `others` have equal words at all indexes from `first` on and below `end`. The loop doesn't stop at a difference, so
+/// that the compiled code can compare many words at once.
 fn same_words(words: &[u32], others: &[u32], first: usize, end: usize) -> bool
     requires within { end ≤ length words.now }
     requires others_within { end ≤ length others.now }
@@ -96,8 +96,8 @@ fn same_words(words: &[u32], others: &[u32], first: usize, end: usize) -> bool
     same
 }
 
-/// Whether the `n` words from index `i` on are equal to those of another list, which has marks of its own. A block without a mark in either
-/// list isn't read: both lists have zeros there.
+/// Whether `words` and `others` have equal words at the `n` indexes from `i` on. A block that has a mark in neither list isn't read,
+/// because both lists have only zeros there.
 pub(crate) fn same_range(
     words: &[u32],
     marks: &[bool],

@@ -1,14 +1,14 @@
-//! Moves of words, as they are or shifted by half a word, as if all words had been read before any was written. If the words that are read
-//! and those that are written overlap, they go in blocks, each of which is read whole before it is written. The blocks go from the first to
-//! the last or from the last to the first, as the overlap requires.
+//! Copies words, unchanged or shifted by half a word. The result is as if all words were read before any word was written. If the source
+//! and the target overlap, the words are copied in blocks; each block is read whole before its copy is written. The overlap decides whether
+//! the first block or the last block is copied first.
 
 ghost use Rattle.std.specs.Prelude.{◌≡◌, ◌+◌, ◌<◌, ◌≤◌, ◌⊎◌, true, false, length};
 ghost use Rattle.wb_chunk.specs.Halves.{AreMoved, word_of};
 
-/// How many words make a block, which is read whole.
+/// How many words a block has; a block is read whole before its copy is written.
 const AT_ONCE: usize = 16;
 
-/// Copies `n` words from index `from` to index `to`.
+/// Copies the `n` words that start at index `from` to the range that starts at index `to`.
 pub(crate) fn move_words(words: &mut [u32], from: usize, to: usize, n: usize)
     requires source { from + n ≤ length words.old }
     requires target { to + n ≤ length words.old }
@@ -23,8 +23,8 @@ pub(crate) fn move_words(words: &mut [u32], from: usize, to: usize, n: usize)
     }
 }
 
-/// Writes the `n` words from index `to` on. The low half of each is the high half of the word at the same distance from `from`, and its
-/// high half is the low half of the word after that.
+/// Writes the `n` words from index `to` on. The low half of word `to + k` is the high half of word `from + k`. The high half of word `to +
+/// k` is the low half of word `from + k + 1`.
 pub(crate) fn shift_words(words: &mut [u32], from: usize, to: usize, n: usize)
     requires source { from + n < length words.old }
     requires target { to + n ≤ length words.old }
@@ -33,7 +33,7 @@ pub(crate) fn shift_words(words: &mut [u32], from: usize, to: usize, n: usize)
     move_all(words, from, to, n, true);
 }
 
-/// Copies words to a range that doesn't overlap with theirs.
+/// Copies the `n` words that start at index `from` to the range that starts at index `to`. The two ranges must not overlap.
 fn copy_apart(words: &mut [u32], from: usize, to: usize, n: usize)
     requires apart { (from + n ≤ to) ⊎ (to + n ≤ from) }
     requires source { from + n ≤ length words.old }
@@ -49,7 +49,7 @@ fn copy_apart(words: &mut [u32], from: usize, to: usize, n: usize)
     }
 }
 
-/// Copies `n` words that are followed by at least one more word, shifted or as they are.
+/// Copies `n` words, shifted by half a word or unchanged. At least one more word must follow these `n` words.
 fn move_all(words: &mut [u32], from: usize, to: usize, n: usize, shifted: bool)
     requires source { from + n < length words.old }
     requires target { to + n ≤ length words.old }
@@ -62,7 +62,7 @@ fn move_all(words: &mut [u32], from: usize, to: usize, n: usize, shifted: bool)
     }
 }
 
-/// Does what `move_all` does, to indexes that are no greater, beginning with the first word.
+/// Does what `move_all` does, if `to` is at most `from`. The copy begins with the first word.
 fn move_down(words: &mut [u32], from: usize, to: usize, n: usize, shifted: bool)
     requires order { to ≤ from }
     requires source { from + n < length words.old }
@@ -76,7 +76,7 @@ fn move_down(words: &mut [u32], from: usize, to: usize, n: usize, shifted: bool)
     }
 }
 
-/// Does what `move_all` does, to greater indexes, beginning with the last word.
+/// Does what `move_all` does, if `to` is greater than `from`. The copy begins with the last word.
 fn move_up(words: &mut [u32], from: usize, to: usize, n: usize, shifted: bool)
     requires order { from < to }
     requires target { to + n ≤ length words.old }
@@ -93,7 +93,7 @@ fn move_up(words: &mut [u32], from: usize, to: usize, n: usize, shifted: bool)
     }
 }
 
-/// Copies one block of [`AT_ONCE`] words, shifted or as they are.
+/// Copies one block of [`AT_ONCE`] words, shifted by half a word or unchanged.
 fn move_block(words: &mut [u32], from: usize, to: usize, shifted: bool)
     requires source { from + AT_ONCE < length words.old }
     requires target { to + AT_ONCE ≤ length words.old }
@@ -106,7 +106,7 @@ fn move_block(words: &mut [u32], from: usize, to: usize, shifted: bool)
     }
 }
 
-/// Copies one block of [`AT_ONCE`] words, shifted.
+/// Copies one block of [`AT_ONCE`] words, shifted by half a word.
 fn shift_block(words: &mut [u32], from: usize, to: usize)
     requires source { from + AT_ONCE < length words.old }
     requires target { to + AT_ONCE ≤ length words.old }
@@ -119,7 +119,7 @@ fn shift_block(words: &mut [u32], from: usize, to: usize)
     }
 }
 
-/// Copies one block of [`AT_ONCE`] words as they are.
+/// Copies one block of [`AT_ONCE`] words, unchanged.
 fn copy_block(words: &mut [u32], from: usize, to: usize)
     requires source { from + AT_ONCE ≤ length words.old }
     requires target { to + AT_ONCE ≤ length words.old }
@@ -130,7 +130,7 @@ fn copy_block(words: &mut [u32], from: usize, to: usize)
     words[to..to + AT_ONCE].copy_from_slice(&block);
 }
 
-/// Copies one word that is followed by another, shifted or as it is.
+/// Copies one word, shifted by half a word or unchanged. At least one more word must follow this word.
 fn move_word(words: &mut [u32], from: usize, to: usize, shifted: bool)
     requires source { from + 1 < length words.old }
     requires target { to < length words.old }

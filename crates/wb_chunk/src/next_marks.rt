@@ -1,10 +1,10 @@
-//! Searches for the next block with a mark. Most blocks have none, so many blocks are passed over at once.
+//! Searches for the next block with a mark. Most blocks have no mark, so the search skips many blocks at once.
 
 ghost use Rattle.std.specs.Prelude.{◌≡◌, ◌<◌, ◌≤◌, false, length};
 ghost use Rattle.wb_chunk.specs.Marks.{AreUnmarked, IsNextInEither, IsNextMarked};
 
-/// How many marks are looked at together. A search first goes in groups of this many, since the compiler needs no loop for a number that it
-/// knows, and then through the marks that are left.
+/// The size of the groups in which marks are tested. Testing a group of constant size needs no loop. The marks that are left after the last
+/// whole group are tested as one shorter group.
 const TOGETHER: usize = 64;
 
 /// The first block with a mark from block `from` on, or `end` if no block below `end` has one.
@@ -18,7 +18,7 @@ pub(crate) fn next_marked(marks: &[bool], from: usize, end: usize) -> usize
     search_marked(marks, from, end)
 }
 
-/// Does what `next_marked` does, many marks at once.
+/// Does what `next_marked` does, but looks at many marks at once.
 #[inline(never)]
 fn search_marked(marks: &[bool], from: usize, end: usize) -> usize
     requires { (from ≤ end) × (end ≤ length marks.now) }
@@ -37,7 +37,7 @@ fn search_marked(marks: &[bool], from: usize, end: usize) -> usize
     end
 }
 
-/// Does what `next_marked` does, one mark after another.
+/// Does what `next_marked` does, but looks at one mark after another.
 fn first_marked(marks: &[bool], from: usize, end: usize) -> usize
     requires { (from ≤ end) × (end ≤ length marks.now) }
     ensures { IsNextMarked marks.now from end result }
@@ -61,7 +61,7 @@ pub(crate) fn next_in_either(marks: &[bool], others: &[bool], from: usize, end: 
     search_either(marks, others, from, end)
 }
 
-/// Does what `next_in_either` does, many marks at once.
+/// Does what `next_in_either` does, but looks at many marks at once.
 #[inline(never)]
 fn search_either(marks: &[bool], others: &[bool], from: usize, end: usize) -> usize
     requires { (from ≤ end) × (end ≤ length marks.now) × (end ≤ length others.now) }
@@ -81,7 +81,7 @@ fn search_either(marks: &[bool], others: &[bool], from: usize, end: usize) -> us
     end
 }
 
-/// Does what `next_in_either` does, one mark after another.
+/// Does what `next_in_either` does, but looks at one mark after another.
 fn first_in_either(marks: &[bool], others: &[bool], from: usize, end: usize) -> usize
     requires { (from ≤ end) × (end ≤ length marks.now) × (end ≤ length others.now) }
     ensures { IsNextInEither marks.now others.now from end result }
@@ -94,7 +94,8 @@ fn first_in_either(marks: &[bool], others: &[bool], from: usize, end: usize) -> 
     end
 }
 
-/// Whether a block from `from` on and below `end` has a mark. The loop doesn't end at a mark, so that many are read at once.
+/// Whether any block from `from` on and below `end` has a mark. The loop doesn't stop at a mark, so that the compiled code can read many
+/// marks at once.
 fn has_mark(marks: &[bool], from: usize, end: usize) -> bool
     requires { (from ≤ end) × (end ≤ length marks.now) }
     ensures off { result ≡ false → AreUnmarked marks.now from end }

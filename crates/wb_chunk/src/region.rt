@@ -1,7 +1,7 @@
 //! The memory of a chunk: a block with words in it, and the right to free it.
 //!
-//! Only the functions here follow a raw pointer, and each is proved by hand. A region stores neither how many words it has nor how many it
-//! has room for: its owner stores both numbers, and passes them in.
+//! Only the functions here follow a raw pointer, and each of them is proved by hand. A region doesn't store how many words it has, or for
+//! how many words it has room. The region's owner stores both numbers and passes them to the functions.
 
 ghost use Rattle.std.specs.Prelude.{◌≡◌, ℕ, ◌<◌, ◌≤◌, List, [], ◌∷◌, ◌++◌, length, take, IfOk, OnOk, OnErr};
 ghost use Rattle.std.specs.Borrow.{u32, Array, sem};
@@ -12,8 +12,8 @@ use std::alloc::{AllocError, Allocator};
 use std::marker::{Model, PhantomData};
 use std::slice;
 
-/// Words at the start of a block of memory, which has room for `capacity` words. No region is ever dropped: only `free` ends a region, so
-/// that its block goes back to the allocator exactly once.
+/// A block of memory that has room for `capacity` words, with `words` at its start. No region is ever dropped: only `free` ends a region,
+/// so its block goes back to the allocator exactly once.
 pub(crate) struct Region<A: Allocator> {
     start: *mut u32,
     mark: PhantomData<A>,
@@ -32,7 +32,7 @@ impl<A: Allocator> Model for Region<A> {
 impl<A: Allocator> Region<A> {
     ghost use Rattle.wb_chunk.specs.Lending.{lends_words};
 
-    /// A new region whose block has room for `capacity` words, none of which is written.
+    /// Returns a new region whose block has room for `capacity` words. No word is written yet.
     pub(crate) fn allocate(alloc: &A, capacity: u32) -> Result<Region<A>, AllocError>
         ensures { IfOk result (λ r.
             (r.words ≡ []) × (r.capacity ≡ capacity) × (r.alloc ≡ alloc.now)) }
@@ -46,7 +46,7 @@ impl<A: Allocator> Region<A> {
         }
     }
 
-    /// Makes room for `wanted` words, in a block that may be at another address. On `Err` the region is as it was.
+    /// Makes room for `wanted` words; the block may move to another address. If `grow` returns `Err`, the region is as it was.
     pub(crate) fn grow(
         &mut self,
         alloc: &A,
@@ -94,14 +94,14 @@ impl<A: Allocator> Region<A> {
         unsafe { self.start.add(count as usize).write(word) }
     }
 
-    /// Keeps the first `n` words; the memory of the others becomes room again. Nothing is written.
+    /// Keeps the first `n` words; the memory of the other words becomes room for new words. Nothing is written.
     pub(crate) fn truncate(&mut self, count: u32, n: u32)
         requires { (count ≡ length self.old.words) × (count ≤ self.old.capacity) × (n ≤ count) }
         ensures { (self.new.words ≡ take n self.old.words)
             × (self.new.capacity ≡ self.old.capacity) × (self.new.alloc ≡ self.old.alloc) }
     {}
 
-    /// The words, to be read.
+    /// The words, as a slice for reading.
     pub(crate) fn as_slice(&self, count: u32) -> &[u32]
         requires { count ≡ length self.now.words }
         ensures { result.now ≡ self.now.words }
@@ -109,7 +109,7 @@ impl<A: Allocator> Region<A> {
         unsafe { slice::from_raw_parts(self.start, count as usize) }
     }
 
-    /// The words, to be changed in place.
+    /// The words, as a slice for changes in place.
     pub(crate) fn as_mut_slice(&mut self, count: u32) -> &mut [u32]
         requires { count ≡ length self.old.words }
         ensures* writes_back { sem 𝓛 (lends_words A.row A.Allocator self.entry result) }

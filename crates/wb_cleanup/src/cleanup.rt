@@ -20,10 +20,10 @@ const FIRST_SLOTS: u32 = 8;
 /// How many slots each growth adds.
 const MORE_SLOTS: u32 = 4;
 
-/// The cleanup stack: items in slots, which are words of a cell of a debug heap, the oldest item first.
+/// The cleanup stack. The stack's items are in slots, the oldest item first. The slots are words of a cell of a debug heap.
 ///
-/// Every call that takes a heap, except `start`, must be given the heap that holds the stack's cell. Source: Symbian OS v9 SDK reference,
-/// CleanupStack, and this project's profile for the slots.
+/// Every call that takes a heap, except `start`, needs the heap that has the stack's cell. Source: Symbian OS v9 SDK reference,
+/// CleanupStack; this project's profile for the slots.
 #[derive(Clone, Copy, Debug, PartialEq, Eq)]
 pub struct Cleanup {
     cell: Ptr,
@@ -33,22 +33,22 @@ pub struct Cleanup {
     slots: u32,
 }
 
-/// What came of a push.
+/// The outcome of a push.
 #[derive(Clone, Copy, Debug, PartialEq, Eq)]
 pub enum Pushed {
     /// The item is on the stack.
     Fine,
-    /// The item is on the stack, but it filled the last slot, and the attempt to grow the cell failed: the push leaves.
+    /// The item is on the stack. But the item filled the last slot and the attempt to grow the cell failed, so the push leaves.
     Leave,
-    /// The item isn't on the stack: the grown cell would have ended past the heap's ceiling, which cuts the run.
+    /// The item isn't on the stack, because the grown cell would have ended past the heap's ceiling. This cuts the run.
     Ceiling,
 }
 
 impl Cleanup {
-    /// Returns the empty stack of a run, with 8 slots. The request for its cell, of 128 bytes, is the run's first attempt.
+    /// Returns the empty stack of a run, with 8 slots. The request for the stack's cell is for 128 bytes, and is the run's first attempt.
     ///
-    /// `None` exactly if the setting or the rule makes this attempt fail. `NoMemory` if the workbench itself runs out of memory; the heap
-    /// is then as it was. Source: Symbian OS v9 SDK reference, CTrapCleanup::New, and this project's profile for the length.
+    /// Returns `None` exactly if the first attempt fails. Returns `NoMemory` if the workbench itself runs out of memory; the heap is then
+    /// as it was. Source: Symbian OS v9 SDK reference, CTrapCleanup::New; this project's profile for the length.
     pub fn start(heap: &mut DebugHeap) -> Result<Option<Cleanup>, NoMemory>
         requires first { heap.old.attempts ≡ 0 }
         ensures made { OnOk result (heap.new ≡ (alloc_made heap.old 128 Kind.Cleanup).debug) }
@@ -93,26 +93,27 @@ impl Cleanup {
         self.slots
     }
 
-    /// Whether no slot is free. Every push leaves a slot free, except one that returns `Leave`.
+    /// Whether no slot is free. After a push at least one slot is free, unless the push returns `Leave`.
     pub fn is_full(&self) -> bool
         ensures { result ≡ nat_le (slots_of self.now) (count_of self.now) }
     {
         self.slots <= self.used
     }
 
-    /// Whether exactly one slot is free: the next push grows the stack's cell.
+    /// Whether exactly one slot is free. The next push then attempts to grow the stack's cell.
     pub fn has_one_free(&self) -> bool
         ensures { result ≡ nat_eq (count_of self.now + 1) (slots_of self.now) }
     {
         self.used < self.slots && self.used + 1 == self.slots
     }
 
-    /// Puts an item on top. If it fills the last slot, the cell is reallocated for 4 slots more; this is an attempt, and may move the cell.
+    /// Puts an item on top. If the item fills the last slot, the cell is reallocated for 4 more slots. This reallocation is an attempt, and
+    /// may move the cell.
     ///
-    /// A push that doesn't fill the last slot returns `Fine` and needs no memory. After `Leave` the item is on the stack, which has as many
-    /// slots as before. `NoMemory` if the workbench itself runs out of memory; it never comes in place of `Ceiling`. After
-    /// `Ceiling` and `NoMemory` the stack and the heap are as they were. Source: Symbian OS v9 SDK reference, CleanupStack::PushL, and this
-    /// project's profile for the slots.
+    /// A push that doesn't fill the last slot returns `Fine` and needs no memory. After `Leave` the item is on the stack, but the stack has
+    /// only as many slots as before. Returns `NoMemory` if the workbench itself runs out of memory; `NoMemory` never comes in place of
+    /// `Ceiling`. After `Ceiling` or `NoMemory` the stack and the heap are as they were. Source: Symbian OS v9 SDK reference,
+    /// CleanupStack::PushL; this project's profile for the slots.
     pub fn push(&mut self, heap: &mut DebugHeap, item: Item) -> Result<Pushed, NoMemory>
         requires stands { IsStack self.old heap.old }
         requires room { count_of self.old < slots_of self.old }
@@ -132,7 +133,7 @@ impl Cleanup {
         Ok(pushed)
     }
 
-    /// Grows the cell if one more item fills the last slot; if not, returns `Fine` and changes nothing.
+    /// Makes an attempt to grow the cell if one more item would fill the last slot; otherwise returns `Fine` and changes nothing.
     fn make_room(&mut self, heap: &mut DebugHeap) -> Result<Pushed, NoMemory>
         requires stands { IsStack self.old heap.old }
         requires room { count_of self.old < slots_of self.old }
@@ -154,7 +155,7 @@ impl Cleanup {
         }
     }
 
-    /// Reallocates the cell for 4 slots more; the items in it stay.
+    /// Makes an attempt to reallocate the cell for 4 more slots; the items in the cell stay.
     fn grow(&mut self, heap: &mut DebugHeap) -> Result<Pushed, NoMemory>
         requires stands { IsStack self.old heap.old }
         requires number { heap.old.attempts + 1 < 2 ^ 32 }
@@ -194,11 +195,11 @@ impl Cleanup {
         self.used += 1;
     }
 
-    /// Takes the `n` newest items off the stack. `Panic::POP_BELOW_TRAP` if fewer than `n` items are above the `floor` oldest ones; the
-    /// stack is then as it was.
+    /// Removes the `n` newest items from the stack. Returns `Panic::POP_BELOW_TRAP` if fewer than `n` items are above the `floor` oldest
+    /// items; the stack is then as it was.
     ///
-    /// What is done with the items is the caller's business. Source: Symbian OS v9 SDK reference, CleanupStack::Pop, and this project's
-    /// profile for the floor.
+    /// The caller decides what to do with the items. Source: Symbian OS v9 SDK reference, CleanupStack::Pop; this project's profile for the
+    /// floor.
     pub fn pop(&mut self, floor: u32, n: u32) -> Result<(), Panic>
         ensures refused { IfErr result (λ panic.
             pop_refusal floor n (count_of self.old) ≡ Some panic) }
@@ -213,11 +214,11 @@ impl Cleanup {
         Ok(())
     }
 
-    /// Takes the newest item off the stack. The item's pointer must be `ptr`, with the same place and the same number.
+    /// Removes the newest item from the stack, if the item's pointer has the place and the number of `ptr`.
     ///
-    /// `Panic::POP_BELOW_TRAP` if no item is above the `floor` oldest ones, then `Panic::ANOTHER_ITEM_ON_TOP` if the newest item has
-    /// another pointer; the stack is then as it was. Source: Symbian OS v9 SDK reference, CleanupStack::Pop, and this project's profile for
-    /// the floor and the panics.
+    /// Returns `Panic::POP_BELOW_TRAP` if no item is above the `floor` oldest items; otherwise `Panic::ANOTHER_ITEM_ON_TOP` if the newest
+    /// item has another pointer. After a panic the stack is as it was. Source: Symbian OS v9 SDK reference, CleanupStack::Pop; this
+    /// project's profile for the floor and the panics.
     pub fn pop_expected(&mut self, heap: &DebugHeap, floor: u32, ptr: Ptr) -> Result<(), Panic>
         requires { IsStack self.old heap.now }
         ensures refused { IfErr result (λ panic.
@@ -237,10 +238,10 @@ impl Cleanup {
         Ok(())
     }
 
-    /// Takes the newest item off the stack and returns it; `None` if no item is above the `floor` oldest ones, and then the stack is as it
-    /// was.
+    /// Removes the newest item from the stack and returns the item. Returns `None` if no item is above the `floor` oldest items; the stack
+    /// is then as it was.
     ///
-    /// Source: Symbian OS v9 SDK reference, CleanupStack::PopAndDestroy, and this project's profile for the floor.
+    /// Source: Symbian OS v9 SDK reference, CleanupStack::PopAndDestroy; this project's profile for the floor.
     pub fn take_top(&mut self, heap: &DebugHeap, floor: u32) -> Option<Item>
         requires { IsStack self.old heap.now }
         ensures item { result ≡ newest_above floor (items_of self.old heap.now) }

@@ -1,6 +1,6 @@
-//! The cleanup stack: items in slots, which are words of one cell of the debug heap; the cell grows with the items.
+//! The cleanup stack: items in slots. The slots are words of one cell of the debug heap. This cell grows with the number of items.
 //!
-//! The calls are in `cleanup`; `slots` writes and reads one slot.
+//! The calls are in `cleanup`. The module `slots` writes and reads one slot.
 #![tactic(auto)]
 
 pub mod cleanup;

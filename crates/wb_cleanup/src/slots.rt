@@ -1,5 +1,6 @@
-//! One slot of the cleanup stack: four words of its cell. They say what is done with the item, the place and the number of its pointer, and
-//! the index of its operation, 0 if it has none.
+//! One slot of the cleanup stack: four words of the stack's cell. The first word says what the cleanup does with the item. The second and
+//! third words are the place and the number of the item's pointer. The fourth word is the index of the item's operation, or 0 if the item
+//! has no operation.
 
 ghost use Rattle.std.specs.Prelude.{◌≡◌, ◌+◌, ◌*◌, ◌^◌, ◌<◌, ◌≤◌, length};
 ghost use Rattle.wb_cleanup.specs.Slots.{IsSlot, with_words, words_of_slot};
@@ -11,11 +12,11 @@ ghost use Rattle.wb_heap_model.specs.Pointers.{item_pointer};
 use wb_debug::DebugHeap;
 use wb_heap_model::heap::{Item, Ptr};
 
-/// The first word of an item that is freed.
+/// The first word of the slot of an item that the cleanup frees.
 const FREE: u32 = 1;
-/// The first word of an object that is deleted.
+/// The first word of the slot of an object that the cleanup deletes.
 const DELETE: u32 = 2;
-/// The first word of an item that an operation is called on.
+/// The first word of the slot of an item on which the cleanup calls an operation.
 const CALL: u32 = 3;
 
 /// Writes an item into the slot with this index, and changes nothing else.

@@ -1,4 +1,4 @@
-//! What the words of a command line ask for, or why they are no command. How the words are read is in `command_line`.
+//! What the words of a command line ask for, or why they are no command. The file `command_line` reads the words.
 ghost use Rattle.std.specs.Prelude.{◌≡◌};
 ghost use Rattle.wb_command_line.specs.declared.command.CommandFault.TheVariants.{NoMemory};
 ghost use Rattle.wb_command_line.specs.Fault.{fault_of_error};
@@ -14,20 +14,20 @@ use wb_runs::part::Part;
 /// What a sweep looks for among failures.
 #[derive(Clone, Copy, Debug, PartialEq, Eq)]
 pub enum Search {
-    /// The least of these failures whose run leaks or panics, and that run. A failure is an attempt that fails, a rate at which
-    /// attempts fail, an attempt from which on all fail, or two attempts that fail.
+    /// The least of these failures whose run leaks or panics, together with this run. A failure is an attempt that fails, a rate at which
+    /// attempts fail, an attempt from which on all attempts fail, or two attempts that fail.
     Least(Failures),
-    /// How the run ends under each of these failures for which it leaks, panics or is cut; and the run under the least failure for which it
+    /// All of these failures whose run leaks, panics or is cut, each with how its run ends. Also the run under the least failure whose run
     /// leaks or panics.
     All(Failures),
-    /// How the run ends under every one of these failures, also where it is fine; and the run under the least failure for which it leaks or
+    /// How the run ends under every one of these failures, even if the run is fine. Also the run under the least failure whose run leaks or
     /// panics.
     Ends(Failures),
-    /// The least set of attempts whose run leaks or panics if they fail together, and that run. The number says how many attempts a set may
-    /// have, from 1 to 8.
+    /// The least set of attempts that makes the run leak or panic if they fail together, and this run. The number says how many attempts a
+    /// set may have, from 1 to 8.
     Sets(u32),
-    /// The least set of attempts, of any size, whose run leaks or panics if they fail together, and that run. The number says how many
-    /// states the search may meet, from 1 to 10,000,000.
+    /// The least set of attempts, of any size, that makes the run leak or panic if they fail together, and this run. The number says how
+    /// many states the search may meet, from 1 to 10,000,000.
     EverySet(u32),
 }
 
@@ -46,7 +46,7 @@ pub enum Task {
     Check(Search),
 }
 
-/// A command: what is to be done, and with what.
+/// A command: what is to be done, and with which file and options.
 #[derive(Debug, Drop)]
 pub struct Command {
     pub task: Task,
@@ -56,36 +56,37 @@ pub struct Command {
     pub budget: u32,
     /// The heap's minimum length and step, in bytes, in the ranges that `Shape` states, and whether cells that grow always move.
     pub shape: Shape,
-    /// Whether the report is written as one JSON object, and not as lines.
+    /// Whether the report is written as one JSON object, instead of as lines.
     pub json: bool,
     /// Whether no progress is shown on standard error while runs go on.
     pub quiet: bool,
-    /// Whether the rows of the report's table are left out: its lines that begin with `from`.
+    /// Whether the rows of the report's table, which are its lines that begin with `from`, are left out.
     pub brief: bool,
-    /// The file that a picture of the runs is written to; `None` if none is wanted.
+    /// The file to which a picture of the runs is written; `None` if no picture is wanted.
     pub picture: Option<FileName>,
-    /// The file that what is explained is written to as a SARIF log; `None` if none is wanted.
+    /// The file to which the explanations are written as a SARIF log; `None` if no log is wanted.
     pub sarif: Option<FileName>,
-    /// How many of the run's first steps are followed, which is also how many of its last, from 1 to 1,000,000; `None` if none are
-    /// followed. If `around` is an attempt, how many before it, and how many after it.
+    /// How many of the run's first steps, and how many of its last steps, are followed, from 1 to 1,000,000; `None` if no steps are
+    /// followed. If `around` is an attempt, this is how many steps before the attempt, and how many after it, are followed.
     pub follow: Option<u32>,
-    /// The number of the attempt about which steps are followed, from 1 to 16,777,216; `None` if the first steps and the last are.
+    /// The number of the attempt around which steps are followed, from 1 to 16,777,216. If it is `None`, the first and the last steps are
+    /// followed.
     pub around: Option<u32>,
 }
 
-/// Why words are no command. If words have several faults, the first of them in this order is the answer.
+/// Why words are no command. If words have several faults, the fault that comes first in this order is returned.
 #[derive(Debug, Drop, Error)]
 pub enum CommandFault {
-    /// `clap` refuses the words, or they call for help or the version, or `clap` takes them but the text of a set is no list. The text of
-    /// the error is for the user.
+    /// `clap` refuses the words, or they ask for help or the version, or `clap` takes the words but the text of a set is no list. The text
+    /// of the error is meant for the user.
     #[error("{0}")]
     Usage(clap::Error),
-    /// `clap` takes the words, but they give more than one of `--limit`, `--fail`, `--fail-from`, `--every` with a number, and `--set`; or
-    /// more than one of `--every` without a number, `--persistent`, `--pairs`, `--failures` and `--sets`; or `--all` or `--ends` together
-    /// with pairs or sets, or with each other. This fault comes before `Also`.
+    /// `clap` takes the words, but they give options that don't go together. Only one of `--limit`, `--fail`, `--fail-from`, `--every` with
+    /// a number, and `--set` may be given. Only one of `--every` without a number, `--persistent`, `--pairs`, `--failures` and `--sets` may
+    /// be given. `--all` and `--ends` don't go together with each other, or with pairs or sets. This fault comes before `Also`.
     #[error("error: two of these options don't go together\n")]
     Both,
-    /// `clap` takes the words, but they give `--also` without `--fail`, or with a value of `--fail` that is 0 or not less than that of
+    /// `clap` takes the words, but they give `--also` without `--fail`, or with a value of `--fail` that is 0 or not less than the value of
     /// `--also`. This fault comes before `Shape`.
     #[error("error: give '--also' with '--fail', and a number greater than that of '--fail', which is at least 1\n")]
     Also,
@@ -93,10 +94,10 @@ pub enum CommandFault {
     /// `Range`.
     #[error("error: the values of '--min' and '--step' are multiples of 16\n")]
     Shape,
-    /// `clap` takes the words, but the value of `--from` is greater than that of `--to`, so that no number is to be tried.
+    /// `clap` takes the words, but the value of `--from` is greater than the value of `--to`, so that no number is to be tried.
     #[error("error: give '--from' a number that is not greater than that of '--to'\n")]
     Range,
-    /// The workbench's own memory ran out, in its own code or in `clap`. This says nothing of the words.
+    /// The workbench's own memory ran out, in its own code or in `clap`. This fault says nothing about the words.
     #[error("error: no memory\n")]
     NoMemory,
 }

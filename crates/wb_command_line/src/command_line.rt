@@ -1,10 +1,10 @@
-//! How the words of a command line are read. Nothing is opened or run here.
+//! How the words of a command line are read. This file doesn't open or run anything.
 //!
 //! `workbench run` takes `[--limit L | --fail N [--also J] | --every N | --fail-from N | --set LIST] [--follow] [--follow-steps N]
-//! [--follow-around N]`.
-//! `sweep` and `check` take `--every`, `--persistent`, `--pairs`, `--all`, `--ends`, `--failures K`, `--sets` and `--states N` instead, and
-//! `sweep` also takes `[--from I] [--to J]`. `size` and `lengths` take none of these. These two and `check` take `--brief`. All five take
-//! `[--budget B] [--min M] [--step G] [--moving] [--json] [--quiet] [--picture FILE] [--sarif FILE] [FILE]`.
+//! [--follow-around N]`. `sweep` and `check` take `--every`, `--persistent`, `--pairs`, `--all`, `--ends`, `--failures K`, `--sets` and
+//! `--states N` instead, and `sweep` also takes `[--from I] [--to J]`. `size` and `lengths` take none of these options. `size`, `lengths`
+//! and `check` take `--brief`. All five subcommands take `[--budget B] [--min M] [--step G] [--moving] [--json] [--quiet] [--picture FILE]
+//! [--sarif FILE] [FILE]`.
 ghost use Rattle.std.specs.Prelude.{◌≡◌, ◌≤◌, All, IfErr, IfOk, IsSome, IsTrue, List, Some, OnErr, OnOk, codes, false};
 ghost use Rattle.std.specs.Prelude.{map, true};
 ghost use Rattle.std.specs.Str.{IsUtf8};
@@ -50,14 +50,14 @@ use wb_runs::part::Part;
 /// The minimum length and the step of a heap are multiples of this, in bytes.
 const GRANULE: u32 = 16;
 
-/// Returns the command that the words spell. The first word is the program's name, and isn't looked at. What the words don't say has its
-/// default, and all numbers are in their ranges.
+/// Returns the command that the words spell. The first word is the program's name, and isn't looked at. Options that the words don't give
+/// have their defaults, and all numbers are in their ranges.
 ///
-/// The error is the first of these that applies: `Usage` if `clap` doesn't take the words, if they call for help or the version, or if the
-/// text of a set is no list; `Both` if options don't go together; `Also` if the words give `--also`, but no lesser `--fail` of at least 1;
-/// `Shape` if the minimum length or the step is no multiple of 16; and `Range` if the part ends before it begins. `CommandFault` says which
-/// options don't go together. `NoMemory` comes whenever the workbench's own memory ran out, in its own code or in `clap`, and says nothing
-/// of the words.
+/// If the words spell no command, the first of these errors that applies is returned. `Usage` applies if `clap` doesn't take the words, if
+/// they ask for help or the version, or if the text of a set is no list. `Both` applies if options don't go together, as `CommandFault`
+/// says. `Also` applies if the words give `--also`, but no lesser `--fail` of at least 1. `Shape` applies if the minimum length or the step
+/// is no multiple of 16, and `Range` if the part ends before it begins. `NoMemory` is returned whenever the workbench's own memory ran out,
+/// in its own code or in `clap`, and says nothing about the words.
 pub fn command<'a, S: AsStr>(alloc: Global, words: &'a [S]) -> Result<Command, CommandFault>
     ensures spelled { IfOk result (IsSpelledBy (map S.text words.now)) }
     ensures numbers { IfOk result (λ command. IsTrue (is_answerable command)) }
@@ -73,8 +73,8 @@ pub fn command<'a, S: AsStr>(alloc: Global, words: &'a [S]) -> Result<Command, C
     command_in(alloc, name, options)
 }
 
-/// Returns the command of a subcommand with these options. The errors are those of `command`; `Usage` comes only for a set whose text is no
-/// list.
+/// Returns the command of a subcommand with these options. The errors are the errors of `command`; `Usage` is returned only if the text of
+/// a set is no list.
 fn command_in(alloc: Global, name: &str, options: &ArgMatches) -> Result<Command, CommandFault>
     requires named { IsSome (subcommand_named name.now) }
     requires passed { RowsPass joined_level.rules (rows_of (found_of options.now)) }
@@ -118,12 +118,12 @@ fn task_in(alloc: Global, name: &str, options: &ArgMatches) -> Result<Task, Comm
         "size" => Ok(Task::Size),
         "lengths" => Ok(Task::Lengths),
         "sweep" => Ok(sweep_in(options)?),
-        // There is no other subcommand than `check`.
+        // The only other subcommand is `check`.
         _ => Ok(check_in(options)?),
     }
 }
 
-/// Checks that the part of a sweep has a number; the error is `Range`. Other tasks name no part, and pass.
+/// Checks that the part of a sweep has at least one number; the only error is `Range`. Other tasks name no part, and pass.
 fn check_part_of(task: &Task) -> Result<(), CommandFault>
     ensures ok { OnOk result (IsTrue (is_filled task.now)) }
     ensures fault { IfErr result (λ fault. fault ≡ CommandFault.Range) }
@@ -135,7 +135,7 @@ fn check_part_of(task: &Task) -> Result<(), CommandFault>
     }
 }
 
-/// Checks that a part has a number. The only error is `Range`.
+/// Checks that a part has at least one number. The only error is `Range`.
 fn check_part(part: Part) -> Result<(), CommandFault>
     ensures ok { OnOk result (IsTrue (has_number part)) }
     ensures fault { IfErr result (λ fault. fault ≡ CommandFault.Range) }
@@ -247,7 +247,7 @@ fn brief_in(options: &ArgMatches) -> bool
     options.get_flag("brief")
 }
 
-/// Returns the script's file; `None` if the options name none. The only error is that memory ran out.
+/// Returns the script's file; `None` if the options name no file. The only error is that memory ran out.
 fn file_in(alloc: Global, options: &ArgMatches) -> Result<Option<FileName>, AllocError>
     ensures { IfOk result
         (λ file. file ≡ first_of (codes "file") (rows_of (found_of options.now))) }
@@ -258,7 +258,7 @@ fn file_in(alloc: Global, options: &ArgMatches) -> Result<Option<FileName>, Allo
     }
 }
 
-/// Returns the file for a picture; `None` if the options name none. The only error is that memory ran out.
+/// Returns the file for a picture; `None` if the options name no such file. The only error is that memory ran out.
 fn picture_in(alloc: Global, options: &ArgMatches) -> Result<Option<FileName>, AllocError>
     ensures { IfOk result
         (λ picture. picture ≡ first_of (codes "picture") (rows_of (found_of options.now))) }
@@ -269,7 +269,7 @@ fn picture_in(alloc: Global, options: &ArgMatches) -> Result<Option<FileName>, A
     }
 }
 
-/// Returns the file for a SARIF log; `None` if the options name none. The only error is that memory ran out.
+/// Returns the file for a SARIF log; `None` if the options name no such file. The only error is that memory ran out.
 fn sarif_in(alloc: Global, options: &ArgMatches) -> Result<Option<FileName>, AllocError>
     ensures { IfOk result
         (λ sarif. sarif ≡ first_of (codes "sarif") (rows_of (found_of options.now))) }
@@ -280,9 +280,9 @@ fn sarif_in(alloc: Global, options: &ArgMatches) -> Result<Option<FileName>, All
     }
 }
 
-/// Law: which words the command line takes, and what they spell, word by word, if no word is an option of the subcommand. After the
-/// program's name and that of a subcommand comes at most one FILE, and at most one `--`, before or after FILE. FILE is `-` or begins with
-/// no hyphen, but after `--` it may be any word. An option of another subcommand counts as any word that begins with a hyphen. `sweep` and
+/// Law: which words the command line takes, and what they spell, word by word, if no word is an option of the subcommand. After the names
+/// of the program and of a subcommand, there is at most one FILE, and at most one `--`, before or after FILE. FILE is `-` or begins with no
+/// hyphen, but after `--` it may be any word. An option of another subcommand counts like any word that begins with a hyphen. `sweep` and
 /// `check` then try the failure of each attempt alone.
 pub fn words_are_read()
     ensures { (words : List Text) → All IsUtf8 words → AreRead words }

@@ -1,11 +1,11 @@
-//! The name of a file, of the script, of a picture or of a log, as the command line gives it.
+//! The name of a file for a script, a picture or a log, as the command line gives it.
 ghost use Rattle.std.specs.Prelude.{◌≡◌, IfOk};
 
 use std::alloc::{AllocError, Global};
 use std::marker::Model;
 
-/// A file's name, which contracts see as the list of its bytes. Any text is a name, also the empty text and `-`. Whether there is such a
-/// file shows only when it is opened.
+/// A file's name, which contracts see as the list of its bytes. Any text is a name, even the empty text and `-`. Opening the file shows
+/// whether it exists.
 #[derive(Debug, Drop)]
 pub struct FileName {
     text: String,

@@ -1,4 +1,4 @@
-//! The command line: which command its words spell, or why they spell none. Nothing is opened or run here.
+//! The command line: which command its words spell, or why they spell no command. This crate doesn't open or run anything.
 #![tactic(auto)]
 
 pub mod command;

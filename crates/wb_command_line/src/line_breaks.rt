@@ -1,14 +1,15 @@
-//! Messages that fit a number of columns: longer lines are broken between words. No contract mentions this text.
+//! Messages that fit a number of columns: lines that are longer are broken between words. No contract mentions this text.
 
 use std::alloc::{AllocError, Global};
 
-/// How many columns a line has where nothing says how many.
+/// How many columns a line has if nothing says how many.
 const DEFAULT_COLUMNS: usize = 80;
 
-/// The least room that is left to words that go on in a column of their own.
+/// The least number of columns that must be left to words that go on in a column of their own.
 const LEAST_ROOM: usize = 30;
 
-/// Returns how many columns a line has, by the text of the variable `COLUMNS`. If it is no number from 1 up, they are 80.
+/// Returns how many columns a line has, given the text of the variable `COLUMNS`. If the text is no number from 1 up, a line has 80
+/// columns.
 pub fn columns_of(text: &str) -> usize {
     match text.parse::<u32>() {
         Ok(columns) if columns > 0 => columns as usize,
@@ -16,8 +17,8 @@ pub fn columns_of(text: &str) -> usize {
     }
 }
 
-/// Returns a text in which each line that is longer than `columns` is broken between words. The next lines begin below the text of the first
-/// one: below the last part of it that comes after two blanks or more. The only error is that memory ran out.
+/// Returns a text in which each line that is longer than `columns` is broken between words. The lines that follow begin below the last part
+/// of the first line that comes after two blanks or more. The only error is that memory ran out.
 pub(crate) fn broken(alloc: Global, text: &str, columns: usize) -> Result<String, AllocError> {
     let mut whole = String::new(alloc);
     for line in text.lines() {
@@ -59,8 +60,8 @@ fn push_blanks(whole: &mut String, count: usize) -> Result<(), AllocError> {
     Ok(())
 }
 
-/// The column in which a line goes on: that of the last part after two blanks or more, if enough columns are left there; else that of its
-/// first word.
+/// The column in which a line goes on. A line goes on in the column of its last part after two blanks or more, if enough columns are left
+/// there; otherwise, in the column of its first word.
 fn column_below(line: &str, columns: usize) -> usize {
     let mut first: usize = 0;
     let mut last: usize = 0;

@@ -1,4 +1,4 @@
-//! What the user is told of words that are no command: the text of the fault, with a tip where `clap` has none that helps. No contract
+//! What the user is told about words that are no command: the text of the fault, with a tip if `clap` has no helpful tip. No contract
 //! mentions this text.
 
 use crate::command::CommandFault;
@@ -8,10 +8,10 @@ use clap::error::ErrorKind;
 use std::alloc::{AllocError, Global};
 use std::convert::AsStr;
 
-/// The usage that `clap` adds to an error that `set_list` makes. It adds none to the errors of values that it finds itself.
+/// The usage that `clap` adds to an error that `set_list` makes. `clap` adds no usage to the errors of values that it finds itself.
 const USAGE: &str = "\n\nUsage: workbench run\n\nFor more information, try '--help'.\n";
 
-/// Returns the text of a fault of these words, of which the first is the program's name, in lines of at most `columns` columns where words
+/// Returns the text of a fault of these words, the first of which is the program's name. Lines have at most `columns` columns if the words
 /// allow it. The only error is that memory ran out.
 pub fn message_of<S: AsStr>(
     alloc: Global,
@@ -23,7 +23,7 @@ pub fn message_of<S: AsStr>(
     broken(alloc, text.as_str(), columns)
 }
 
-/// The text of a fault, its lines however long.
+/// The text of a fault, with lines of any length.
 fn text_of<S: AsStr>(
     alloc: Global,
     words: &[S],
@@ -42,7 +42,7 @@ fn text_of<S: AsStr>(
     }
 }
 
-/// The text of an error, with the usage of an error of `set_list` taken off, as `clap` writes its own errors of values.
+/// The text of an error, without the usage that an error of `set_list` has. `clap` writes its own errors of values without this usage.
 fn without_usage(alloc: Global, text: String) -> Result<String, AllocError> {
     match text.as_str().strip_suffix(USAGE) {
         Some(error) => format!(in alloc; "{error}\n\nFor more information, try '--help'.\n"),
@@ -50,7 +50,7 @@ fn without_usage(alloc: Global, text: String) -> Result<String, AllocError> {
     }
 }
 
-/// The message that names options which don't go together, of words that give such options.
+/// The message that names the options that don't go together, for words that give such options.
 fn too_many<S: AsStr>(words: &[S]) -> &'static str {
     if word_at(words, 1) == "run" {
         return "error: give one of '--limit', '--fail', '--every', '--fail-from' and '--set'\n";
@@ -101,7 +101,7 @@ fn with_tip(alloc: Global, text: &str, tip: &str) -> Result<String, AllocError> 
     Ok(message)
 }
 
-/// A tip for words that `clap` refuses with this text; `None` if no tip helps more than `clap`'s own.
+/// A tip for words that `clap` refuses with this text; `None` if no tip helps more than `clap`'s own tip.
 fn tip_for<S: AsStr>(
     alloc: Global,
     words: &[S],
@@ -118,7 +118,7 @@ fn tip_for<S: AsStr>(
     }
 }
 
-/// A tip for a value that isn't one of its option; `None` if there is none.
+/// A tip for a value that its option doesn't take; `None` if there is no tip.
 fn value_tip<S: AsStr>(
     alloc: Global,
     words: &[S],
@@ -130,7 +130,7 @@ fn value_tip<S: AsStr>(
     several_tip(alloc, quoted_in(text), text)
 }
 
-/// The first text between quotes, which is the refused word; empty if there is none.
+/// The first text between quotes, which is the refused word; empty if no text is between quotes.
 fn quoted_in(text: &str) -> &str {
     let Some((_, rest)) = text.split_once('\'') else {
         return "";
@@ -141,7 +141,7 @@ fn quoted_in(text: &str) -> &str {
     }
 }
 
-/// A tip for a script's name where a subcommand belongs; `None` if the word doesn't look like one.
+/// A tip for a script's name where a subcommand belongs; `None` if the word doesn't look like a script's name.
 fn script_tip(alloc: Global, word: &str) -> Result<Option<String>, AllocError> {
     if !word.contains('.') && !word.contains('/') {
         return Ok(None);
@@ -150,7 +150,7 @@ fn script_tip(alloc: Global, word: &str) -> Result<Option<String>, AllocError> {
     Ok(Some(tip))
 }
 
-/// A tip for an option of another subcommand or of none, or for a second file; `None` if `clap` has one that helps.
+/// A tip for an option of another subcommand or of no subcommand, or for a second file; `None` if `clap` has a helpful tip.
 fn argument_tip<S: AsStr>(
     alloc: Global,
     words: &[S],
@@ -202,7 +202,7 @@ fn number_tip<S: AsStr>(
     }
 }
 
-/// The subcommands that have this option; empty if all subcommands have it, or none has.
+/// The subcommands that have this option; empty if all subcommands have it, or no subcommand has it.
 fn subcommands_with(name: &str) -> &'static str {
     match name {
         "limit" | "fail" | "also" | "fail-from" | "set" => "run",

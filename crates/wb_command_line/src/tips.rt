@@ -1,16 +1,16 @@
-//! Tips for words that are no command where those of `clap` don't help: hyphens too few or too many, numbers below 0, and lists of numbers.
+//! Tips for words that are no command, if `clap`'s own tips don't help: too few or too many hyphens, numbers below 0, and lists of numbers.
 
 use std::alloc::{AllocError, Global};
 use std::convert::AsStr;
 
-/// How `clap` begins its tip for a word with hyphens that it doesn't know. No script is called so.
+/// How `clap` begins its tip for a word with hyphens that it doesn't know. No script has such a name.
 const AS_VALUE: &str = "  tip: to pass '";
 
-/// What takes more than two numbers of attempts.
+/// The tip that names the option which takes more than two numbers of attempts.
 const OF_SETS: &str =
     "'--set' makes attempts fail in place of '--fail' and '--also': it takes a list that ascends, as '3,5,6'";
 
-/// Whether an option, without its hyphens, takes a number or more.
+/// Whether an option, named without its hyphens, takes one or more numbers.
 fn is_number_option(name: &str) -> bool {
     match name {
         "limit" | "fail" | "also" | "every" | "fail-from" | "set" => true,
@@ -20,7 +20,7 @@ fn is_number_option(name: &str) -> bool {
     }
 }
 
-/// Whether an option, with its hyphens, takes a number or more.
+/// Whether an option, named with its hyphens, takes one or more numbers.
 fn takes_number(option: &str) -> bool {
     match option.strip_prefix("--") {
         Some(name) => is_number_option(name),
@@ -37,7 +37,7 @@ fn is_option(name: &str) -> bool {
     }
 }
 
-/// Whether each number of a list is greater than the one before it.
+/// Whether each number of a list is greater than the number before it.
 fn is_ascending(list: &str) -> bool {
     let mut last = 0;
     for part in list.split(',') {
@@ -49,7 +49,7 @@ fn is_ascending(list: &str) -> bool {
     true
 }
 
-/// The word with this index; empty if there is none.
+/// The word with this index; empty if there is no such word.
 pub(crate) fn word_at<S: AsStr>(words: &[S], place: usize) -> &str {
     match words.get(place) {
         Some(word) => word.as_str(),
@@ -61,7 +61,7 @@ pub(crate) fn is_number(word: &str) -> bool {
     !word.is_empty() && word.as_bytes().iter().all(|byte| byte.is_ascii_digit())
 }
 
-/// Whether a word has digits, commas and blanks alone.
+/// Whether a word has only digits, commas and blanks.
 fn is_list(word: &str) -> bool {
     !word.is_empty()
         && word.as_bytes().iter().all(|byte| byte.is_ascii_digit() || matches!(*byte, b',' | b' '))
@@ -77,7 +77,7 @@ fn place_of<S: AsStr>(words: &[S], wanted: &str) -> Option<usize> {
     None
 }
 
-/// The first word that begins so.
+/// The first word with this beginning.
 fn word_with<'w, S: AsStr>(words: &'w [S], beginning: &str) -> &'w str {
     for word in words {
         let word = word.as_str();
@@ -88,7 +88,7 @@ fn word_with<'w, S: AsStr>(words: &'w [S], beginning: &str) -> &'w str {
     ""
 }
 
-/// The word before a word, if it is an option; empty if it is none.
+/// The word before a word, if the word before is an option; otherwise empty.
 fn option_before<'w, S: AsStr>(words: &'w [S], wanted: &str) -> &'w str {
     let mut before = "";
     for word in words {
@@ -100,8 +100,8 @@ fn option_before<'w, S: AsStr>(words: &'w [S], wanted: &str) -> &'w str {
     ""
 }
 
-/// A tip for a word with hyphens that is no option; `None` if `clap` has one that helps. `refused` is the word, or its hyphen and the letter
-/// behind that.
+/// A tip for a word with hyphens that is no option; `None` if `clap` has a helpful tip. `refused` is the word, or its hyphen and the letter
+/// after the hyphen.
 pub(crate) fn hyphen_tip<S: AsStr>(
     alloc: Global,
     words: &[S],
@@ -122,7 +122,8 @@ pub(crate) fn hyphen_tip<S: AsStr>(
     Ok(Some(tip))
 }
 
-/// A tip for a word with one hyphen: a number below 0 behind an option, or an option with one hyphen too few; `None` if it is neither.
+/// A tip for a word with one hyphen: a number below 0 after an option, or an option with one hyphen too few. The result is `None` if the
+/// word is neither.
 fn single_hyphen_tip<S: AsStr>(
     alloc: Global,
     words: &[S],
@@ -144,7 +145,7 @@ fn single_hyphen_tip<S: AsStr>(
     Ok(Some(tip))
 }
 
-/// A tip for `--fail` or `--also` with more than one number; `None` if the text is that of another error.
+/// A tip for `--fail` or `--also` with more than one number; `None` if the text is the text of another error.
 pub(crate) fn several_tip(
     alloc: Global,
     refused: &str,
@@ -164,7 +165,7 @@ pub(crate) fn several_tip(
     Ok(Some(String::from_str(alloc, OF_SETS)?))
 }
 
-/// A tip for `--set` and a list with blanks, which are several words unless they are quoted; `None` if there is no such list.
+/// A tip for `--set` and a list with blanks, which is several words unless it is quoted; `None` if there is no such list.
 pub(crate) fn set_tip<S: AsStr>(alloc: Global, words: &[S]) -> Result<Option<String>, AllocError> {
     let Some(place) = place_of(words, "--set") else {
         return Ok(None);
@@ -177,7 +178,7 @@ pub(crate) fn set_tip<S: AsStr>(alloc: Global, words: &[S]) -> Result<Option<Str
     Ok(Some(tip))
 }
 
-/// The numbers in the words after a place, up to the first word of another kind, with a comma between each two.
+/// The numbers in the words after a place, joined by commas, up to the first word of another kind.
 fn joined_after<S: AsStr>(alloc: Global, words: &[S], place: usize) -> Result<String, AllocError> {
     let mut list = String::new(alloc);
     for (at, word) in words.iter().enumerate() {
@@ -206,7 +207,7 @@ fn push_numbers(list: &mut String, word: &str) -> Result<(), AllocError> {
     Ok(())
 }
 
-/// A tip for a number behind the flag `--follow`; `None` if there is none.
+/// A tip for a number after the flag `--follow`; `None` if there is no such number.
 pub(crate) fn follow_tip<S: AsStr>(
     alloc: Global,
     words: &[S],
@@ -222,7 +223,7 @@ pub(crate) fn follow_tip<S: AsStr>(
     Ok(Some(tip))
 }
 
-/// The number that is given to a flag, as the word after it or after a `=`; empty if none is.
+/// The text of the number given to a flag, as in `--flag N` or `--flag=N`; empty if no number is given.
 pub(crate) fn number_given<'w, S: AsStr>(words: &'w [S], flag: &str) -> &'w str {
     let mut is_after = false;
     for word in words {

@@ -1,5 +1,5 @@
-//! What checks and the end of a mark count, and the leaks of a run. Counts come from the tally. The code goes through the cells, in order
-//! of place, only to name one, to change levels, to list leaks, and to count a level that the tally doesn't know.
+//! The counts of cells for checks and for the end of a mark, and the leaks of a run. Counts come from the tally. The code goes through the
+//! cells, in order of place, only to name a cell, change levels, list leaks, or count a level that the tally doesn't know.
 
 ghost use Rattle.std.specs.Prelude.{◌≡◌, ◌≤◌, None, Some, filter, length, map, not, IfOk, IfErr, OnOk};
 ghost use Rattle.wb_debug.specs.Levels.{is_counted};
@@ -17,14 +17,14 @@ use wb_heap_model::heap::{Header, Kind, Panic};
 use wb_heap_model::reported::{Leak, Leaks};
 use wb_rheap::Heap;
 
-/// The levels whose cells are counted.
+/// The levels of which a check counts the cells.
 #[derive(Clone, Copy, Debug, PartialEq, Eq)]
 pub enum Levels {
     One(u32),
     All,
 }
 
-/// Whether a cell of this kind is of a level: all are except the cleanup stack's cell.
+/// Whether a cell of this kind belongs to a level. Every cell belongs to a level, except the cleanup stack's cell.
 pub fn has_level(kind: Kind) -> bool
     ensures { result ≡ not (is_cleanup kind) }
 {
@@ -34,7 +34,7 @@ pub fn has_level(kind: Kind) -> bool
     }
 }
 
-/// Whether a cell is counted: whether it is of one of these levels.
+/// Whether a cell is counted, that is, belongs to one of these levels.
 fn is_counted(levels: Levels, cell: Header) -> bool
     ensures { result ≡ is_counted levels cell }
 {
@@ -44,8 +44,8 @@ fn is_counted(levels: Levels, cell: Header) -> bool
     }
 }
 
-/// Returns how many cells are counted, and a place such that no counted cell is below it. Goes through the cells only if the tally doesn't
-/// know the level.
+/// Returns how many cells belong to these levels, and a place below which there is no such cell. The function goes through the cells only
+/// if the tally doesn't know the level.
 fn count_and_lowest(heap: &Heap, tally: &Tally, levels: Levels) -> (u32, u32)
     requires { IsTally tally.now (headers heap.now.row) }
     ensures number { result.0 ≡ number (is_counted levels) (headers heap.now.row) }
@@ -60,7 +60,7 @@ fn count_and_lowest(heap: &Heap, tally: &Tally, levels: Levels) -> (u32, u32)
     }
 }
 
-/// Makes the tally anew from the cells themselves, if it doesn't know how many cells this level has.
+/// Replaces the tally by a new tally, made by counting all cells, if the old tally doesn't know how many cells this level has.
 pub fn count_anew(heap: &Heap, tally: &mut Tally, level: u32)
     requires { IsTally tally.old (headers heap.now.row) }
     ensures { IsTally tally.new (headers heap.now.row) }
@@ -70,7 +70,7 @@ pub fn count_anew(heap: &Heap, tally: &mut Tally, level: u32)
     }
 }
 
-/// Returns the tally of the live cells, from the cells themselves.
+/// Returns the tally of the live cells, made by counting the cells.
 fn tally_of(heap: &Heap) -> Tally
     ensures { IsTally result (headers heap.now.row) }
 {
@@ -83,7 +83,7 @@ fn tally_of(heap: &Heap) -> Tally
     tally
 }
 
-/// Returns how many cells are of these levels, from the cells themselves.
+/// Returns how many cells belong to these levels, by counting the cells.
 fn count(heap: &Heap, levels: Levels) -> u32
     ensures { result ≡ number (is_counted levels) (headers heap.now.row) }
 {
@@ -98,7 +98,7 @@ fn count(heap: &Heap, levels: Levels) -> u32
     found
 }
 
-/// Returns the place of the lowest counted cell, or 0 if there is none. No counted cell may be below `from`.
+/// Returns the place of the lowest cell that belongs to these levels, or 0 if there is no such cell. No such cell may be below `from`.
 fn lowest(heap: &Heap, levels: Levels, from: u32) -> u32
     requires { number (is_below (is_counted levels) from) (headers heap.now.row) ≡ 0 }
     ensures { result ≡ lowest (filter (is_counted levels) (headers heap.now.row)) }
@@ -113,9 +113,9 @@ fn lowest(heap: &Heap, levels: Levels, from: u32) -> u32
     0
 }
 
-/// Expects that exactly `n` cells are counted, and returns a place such that none of them is below it. If there are fewer or more, `Err`
-/// names the place of the lowest, or 0 if there is none. Goes through the cells only for that place, and if the tally doesn't know the
-/// level.
+/// Expects that exactly `n` cells belong to these levels, and returns a place below which there is no such cell. If there are fewer or more
+/// such cells, `Err` names the place of the lowest such cell, or 0 if there is no such cell. The function goes through the cells only to
+/// name the lowest cell, or if the tally doesn't know the level.
 pub fn expect(heap: &Heap, tally: &Tally, levels: Levels, n: u32) -> Result<u32, Panic>
     requires { IsTally tally.now (headers heap.now.row) }
     ensures refused { IfErr result (λ panic.
@@ -133,8 +133,8 @@ pub fn expect(heap: &Heap, tally: &Tally, levels: Levels, n: u32) -> Result<u32,
     Err(Panic::Alloc(lowest(heap, levels, from)))
 }
 
-/// Puts each cell of a level one level lower. The level has `n` cells, and none of them is below `from`, so no cell below `from` is looked
-/// at, nor any above the last cell of the level.
+/// Moves each cell of level `level` to level `level - 1`. The level must have exactly `n` cells, none below `from`. So the function looks
+/// only at cells from `from` on, up to the last cell of the level.
 pub fn lower(heap: &mut Heap, level: u32, from: u32, n: u32)
     requires sound { IsSoundHeap heap.old }
     requires some { 1 ≤ level }
@@ -158,8 +158,8 @@ pub fn lower(heap: &mut Heap, level: u32, from: u32, n: u32)
     }
 }
 
-/// Returns the live cells except the cleanup stack's, in order of place; `NoMemory` if the workbench's memory runs out. If the tally says
-/// that there is none, the code doesn't go through the cells.
+/// Returns the live cells except the cleanup stack's cell, in order of place; `NoMemory` if the workbench's memory runs out. If the tally
+/// says that there are no such cells, the function doesn't go through the cells.
 pub fn leaks(alloc: Global, heap: &Heap, tally: &Tally) -> Result<Leaks, NoMemory>
     requires { IsTally tally.now (headers heap.now.row) }
     ensures { IfOk result (λ leaks.
@@ -171,7 +171,7 @@ pub fn leaks(alloc: Global, heap: &Heap, tally: &Tally) -> Result<Leaks, NoMemor
     list_leaks(alloc, heap)
 }
 
-/// Returns the same list, from the cells themselves.
+/// Makes the list that `leaks` returns, by going through the cells.
 fn list_leaks(alloc: Global, heap: &Heap) -> Result<Leaks, NoMemory>
     ensures { IfOk result (λ leaks.
         leaks ≡ map leak_of (cells_of_all_levels (headers heap.now.row))) }

@@ -1,5 +1,5 @@
-//! The debug heap: attempts and releases. Marks are in `marks`, what is to fail in `failing`, notes in `notes`, headers and the words of
-//! payloads in `payloads`, other readers in `readers`, and the cells in the crate `wb_rheap`.
+//! The debug heap: attempts and releases. Marks are in `marks`, and the calls that set which attempts fail are in `failing`. Notes are in
+//! `notes`, headers and the words of payloads are in `payloads`, and other readers are in `readers`. The cells are in the crate `wb_rheap`.
 
 ghost use Rattle.std.specs.Prelude.{◌≡◌, ◌≢◌, ◌+◌, ◌^◌, ◌<◌, ◌≤◌, ◌↔◌, [], false, true, None, Some, is_some, length};
 ghost use Rattle.std.specs.Prelude.{option_map, IfOk, IfErr, IfSome, IsOk, IsErr, IsOkAnd, IsSome, OnOk, OnErr};
@@ -30,14 +30,15 @@ use wb_heap_model::reported::{Leaks, Trace};
 use wb_heap_model::size::Rises;
 use wb_rheap::{Heap, HeapFault};
 
-/// A simulated heap that counts attempts, refuses those that are to fail, and checks nested marks.
+/// A simulated heap that counts attempts, decides which attempts fail, and checks nested marks.
 ///
-/// Every attempt has a number, from 1 on, also if it fails; a cell that it grants or moves has this number, too. First the place of the
-/// cell is chosen. Then the script's own setting is asked, then the rule, then the ceiling. Each attempt that the ceiling doesn't cut is
-/// counted, also by the setting, and adds its line to the trace. In a heap made by `new_rises` it adds the rise that it is, if it is one.
+/// Every attempt has a number, from 1 on, even if the attempt fails. A cell that an attempt grants or moves gets the attempt's number.
+/// First the place of the cell is chosen. Then the script's own setting is checked, then the rule, then the ceiling. If only the ceiling
+/// stops an attempt, the attempt cuts the run. Every other attempt is counted, by the heap and by the setting, and adds a line to the
+/// trace. In a heap made by `new_rises`, an attempt that is a rise adds the rise instead of a line, and any other attempt adds nothing.
 pub struct DebugHeap {
     pub(crate) alloc: Global,
-    /// The cells. This heap's limit is that of the rule, and at most the ceiling.
+    /// The cells. The limit of this heap is the limit of the rule, and at most the ceiling.
     pub(crate) heap: Heap,
     pub(crate) rule: Rule,
     /// How many marks are open.
@@ -50,7 +51,8 @@ pub struct DebugHeap {
     pub(crate) tally: Tally,
 }
 
-/// Written out, so that the proof of code that drops a debug heap has one call there, and only the proof here goes through the fields.
+/// This implementation is written out rather than derived. So a proof elsewhere that drops a `DebugHeap` sees one call, and only the proof
+/// of this function goes through the fields.
 impl Drop for DebugHeap {
     fn drop(self) {
         let DebugHeap {
@@ -79,10 +81,10 @@ impl Model for DebugHeap {
 }
 
 impl DebugHeap {
-    /// Returns a heap with no cell, before its first attempt, that keeps a line of each attempt.
+    /// Returns a heap with no cell and no attempt yet. The heap keeps a line for each attempt.
     ///
-    /// The rule's limit is in bytes. `BadShape` exactly if no heap may have the shape. Otherwise `NoMemory` if the workbench's memory runs
-    /// out, which can't happen if the committed length is 0.
+    /// The rule's limit is in bytes. Returns `BadShape` exactly if the shape isn't allowed; otherwise `NoMemory` if the workbench's memory
+    /// runs out. `NoMemory` can't happen if the committed length is 0.
     pub fn new(alloc: Global, rule: Rule, shape: Shape) -> Result<DebugHeap, DebugFault>
         ensures ok { IfOk result (λ heap. heap ≡ first_debug rule shape) }
         ensures shape { (result ≡ Err DebugFault.BadShape) ↔ (is_shape shape ≡ false) }
@@ -93,10 +95,10 @@ impl DebugHeap {
         with_log(alloc, rule, shape, Log::of_lines(alloc))
     }
 
-    /// Returns a heap with no cell and without a limit that keeps only the rises: the granted attempts whose cells end past all granted
-    /// before. So an attempt that isn't a rise adds nothing.
+    /// Returns a heap with no cell, under `Rule::Unlimited`, that keeps only rises. A rise is a granted attempt whose cell ends past the
+    /// ends of all cells that were granted earlier. An attempt that isn't a rise adds nothing to the heap's records.
     ///
-    /// `BadShape` and `NoMemory` as in `new`.
+    /// Returns `BadShape` and `NoMemory` in the same cases as `new`.
     pub fn new_rises(alloc: Global, shape: Shape) -> Result<DebugHeap, DebugFault>
         ensures ok { IfOk result (λ heap. heap ≡ first_debug_of true Unlimited shape) }
         ensures shape { (result ≡ Err DebugFault.BadShape) ↔ (is_shape shape ≡ false) }
@@ -107,15 +109,16 @@ impl DebugHeap {
         with_log(alloc, Rule::Unlimited, shape, Log::of_rises(alloc))
     }
 
-    /// Returns a copy of the heap with its attempts, its trace, its marks and the script's setting, in memory of its own: what is done to
-    /// one heap changes nothing in the other. `NoMemory` if the workbench's memory runs out.
+    /// Returns a copy of the heap with its attempts, its trace, its marks and the script's setting, in newly allocated memory. A later
+    /// change to the copy or to the original doesn't change the other. Returns `NoMemory` if the workbench's memory runs out.
     pub fn try_copy(&self) -> Result<DebugHeap, NoMemory>
         ensures { IfOk result (λ copy. copy ≡ self.now) }
     {
         self.try_copy_over(None)
     }
 
-    /// Returns a copy as `try_copy` does. If there is a `spare` heap, the copy's cells take over its memory, and its own cells are lost.
+    /// Returns a copy as `try_copy` does. If there is a `spare` heap, the copy's cells take over the spare's memory, and the spare's cells
+    /// are lost.
     pub fn try_copy_over(&self, spare: Option<Heap>) -> Result<DebugHeap, NoMemory>
         ensures { IfOk result (λ copy. copy ≡ self.now) }
     {
@@ -131,9 +134,9 @@ impl DebugHeap {
         })
     }
 
-    /// Returns the live cells except the cleanup stack's, in order of place: what has leaked, once a run is over.
+    /// Returns the live cells except the cleanup stack's cell, in order of place. After a run, these cells are the leaks.
     ///
-    /// `NoMemory` if the workbench has no memory for the list.
+    /// Returns `NoMemory` if the workbench has no memory for the list.
     pub fn leaks(&self) -> Result<Leaks, NoMemory>
         ensures { IfOk result (λ leaks. leaks ≡ leaks_of_heap self.now) }
     {
@@ -147,15 +150,15 @@ impl DebugHeap {
         self.attempts
     }
 
-    /// The attempts that were made, in order; empty if the rises are kept.
+    /// The lines of the attempts that were made, in order; empty if the heap keeps only rises.
     pub fn trace(&self) -> &Trace
         ensures { result.now ≡ self.now.trace }
     {
         self.log.trace()
     }
 
-    /// Gives up the debug heap of a run that is over, and returns its trace, and the heap of its cells, whose memory a copy of another heap
-    /// may take over. Needs no memory.
+    /// Consumes the debug heap of a run that is over, and returns its trace and its heap of cells. A later copy of another heap may take
+    /// over the memory of this heap. The call needs no memory.
     pub fn into_trace_and_heap(self) -> (Trace, Heap)
         ensures { result.0 ≡ self.trace }
     {
@@ -163,7 +166,7 @@ impl DebugHeap {
         (log.into_trace(), heap)
     }
 
-    /// The rises so far, in order, of a heap made by `new_rises`. They are the rises of the trace that a heap made by `new` would have.
+    /// The rises so far, in order, of a heap made by `new_rises`. The trace of a heap made by `new` would have exactly these rises.
     pub fn rises(&self) -> &Rises
         requires { IsSome self.now.rises }
         ensures { Some result.now ≡ self.now.rises }
@@ -171,7 +174,7 @@ impl DebugHeap {
         self.log.rises()
     }
 
-    /// Gives up the debug heap of a run that is over, and returns its rises. Needs no memory.
+    /// Consumes the debug heap of a run that is over, and returns its rises. The call needs no memory.
     pub fn into_rises(self) -> Rises
         requires { IsSome self.rises }
         ensures { Some result ≡ self.rises }
@@ -180,7 +183,7 @@ impl DebugHeap {
         log.into_rises()
     }
 
-    /// Gives up the debug heap, and returns what it kept of its attempts, and the heap of its cells.
+    /// Consumes the debug heap, and returns its log of attempts and its heap of cells.
     fn into_log_and_heap(self) -> (Log, Heap)
         ensures trace { result.0.trace ≡ self.trace }
         ensures rises { result.0.rises ≡ self.rises }
@@ -199,7 +202,7 @@ impl DebugHeap {
     }
 }
 
-/// Returns a heap with no cell that records its attempts in `log`, which is empty.
+/// Returns a heap with no cell that records its attempts in `log`. `log` must be empty.
 fn with_log(alloc: Global, rule: Rule, shape: Shape, log: Log) -> Result<DebugHeap, DebugFault>
     requires trace { log.trace ≡ [] }
     requires rises { log.rises ≡ first_rises (is_some log.rises) }
@@ -225,14 +228,16 @@ fn with_log(alloc: Global, rule: Rule, shape: Shape, log: Log) -> Result<DebugHe
     })
 }
 
-/// Attempts to get a cell, and releases.
+/// The attempts to get a cell, and the releases.
 impl DebugHeap {
-    /// Attempts to get a cell for `bytes` bytes, with zeros for its payload.
+    /// Makes an attempt to get a cell for `bytes` bytes. The payload of a granted cell is all zeros.
     ///
-    /// `Denied` if the setting or the rule makes the attempt fail, which is counted all the same. `Ceiling` if neither does, but the cell
-    /// would end past the heap's ceiling. `NoMemory` if the workbench itself runs out of memory; it never comes in place of `Ceiling`, nor,
-    /// if the rises are kept, for an attempt that isn't a rise. After `Ceiling` and `NoMemory` nothing is counted, and the heap is as it
-    /// was. Source: Symbian OS v9 SDK reference, RHeap, for the grant and the refusal, and this project's profile for their order.
+    /// Returns `Denied` if the script's setting or the rule, which may be a limit, makes the attempt fail; a failed attempt is counted too.
+    /// Returns `Ceiling` if neither the setting nor the rule makes the attempt fail, but the cell would end past the heap's ceiling.
+    /// Returns `NoMemory` if the workbench itself runs out of memory. `NoMemory` never comes in place of `Ceiling`. In a heap that keeps
+    /// only rises, `NoMemory` comes only for an attempt that is a rise. After `Ceiling` or `NoMemory`, the attempt isn't counted and the
+    /// heap is as it was. Source: Symbian OS v9 SDK reference, RHeap, for the grant and the refusal; this project's profile for the order
+    /// of the checks.
     pub fn attempt_alloc(&mut self, bytes: u32, kind: Kind) -> Result<Gave, NoMemory>
         requires bytes { bytes ≤ CEILING }
         requires number { self.old.attempts + 1 < 2 ^ 32 }
@@ -271,14 +276,15 @@ impl DebugHeap {
         Ok(gave)
     }
 
-    /// Gives the cell that the pointer names another length, for `bytes` bytes.
+    /// Changes the length of the cell that the pointer names, so that the cell has room for `bytes` bytes.
     ///
-    /// If the cell gets no longer, this is no attempt: the answer is `Granted` with the same pointer, and the end of the cell is freed with
-    /// what it held. If the cell grows, this is an attempt, answered as by `attempt_alloc`. The cell stays at its place if enough bytes
-    /// after it are free. If not, or if the shape says that growing cells always move, it goes to the lowest place that fits while its old
-    /// bytes still count as taken. The cell keeps its kind, its level and what it holds, with zeros after that. A cell that moved has the
-    /// attempt's number, so the old pointer is stale. Source: Symbian OS v9 SDK reference, RHeap, for what is kept and for a refusal that
-    /// leaves the cell, and this project's profile for places and numbers.
+    /// If the cell gets no longer, the call isn't an attempt: it returns `Granted` with the same pointer, and the bytes past the cell's new
+    /// end are freed. If the cell grows, the call is an attempt, and returns `Denied`, `Ceiling` and `NoMemory` in the same cases as
+    /// `attempt_alloc`. A growing cell moves if too few bytes after it are free, or if the shape says that growing cells always move;
+    /// otherwise it stays at its place. A cell that moves goes to the lowest place where it fits while its old bytes still count as taken.
+    /// The cell keeps its kind, its level and its words, and gets zeros after these words. A cell that moves gets the attempt's number, so
+    /// the old pointer is stale. Source: Symbian OS v9 SDK reference, RHeap, for the kept contents and for a refusal that leaves the cell;
+    /// this project's profile for places and numbers.
     pub fn attempt_realloc(&mut self, ptr: Ptr, bytes: u32) -> Result<Gave, NoMemory>
         requires live { IsSome (cell_at ptr self.old.heap.row) }
         requires bytes { bytes ≤ CEILING }
@@ -322,7 +328,7 @@ impl DebugHeap {
     }
 
     /// Returns the trace line of the next attempt, for a cell of this length at this place, both in bytes; `None` if the ceiling cuts the
-    /// run. The script's setting is asked first, then the rule, then the ceiling.
+    /// run. The script's setting is checked first, then the rule, then the ceiling.
     #[inline(always)]
     fn next_line(&self, len: u32, place: u32) -> Option<Attempt>
         requires number { self.now.attempts + 1 < 2 ^ 32 }
@@ -345,8 +351,8 @@ impl DebugHeap {
 
     /// Releases the cell that the pointer names; a null pointer releases nothing.
     ///
-    /// `Panic::BAD_CELL` exactly if the pointer isn't null and names no live cell; the heap is then as it was. Source: Symbian OS v9 SDK
-    /// reference, RHeap.
+    /// Returns `Panic::BAD_CELL` exactly if the pointer isn't null and names no live cell; the heap is then as it was. Source: Symbian OS
+    /// v9 SDK reference, RHeap.
     pub fn release(&mut self, ptr: Ptr) -> Result<(), Panic>
         ensures refused { IfErr result (λ panic. release_refusal self.old ptr ≡ Some panic) }
         ensures fine { OnOk result (release_refusal self.old ptr ≡ None) }
@@ -367,8 +373,8 @@ impl DebugHeap {
     }
 }
 
-/// Returns what an attempt gives after the heap was asked to grant it. If the workbench's own memory ran out, it counts as no attempt: what
-/// it added to the log is removed.
+/// Turns `granted`, which the heap returned for an attempt, into the result of the attempt. If `granted` is an error, the workbench's own
+/// memory ran out; the attempt then doesn't count, so what the attempt added to the log is removed.
 fn answer_or_undo(
     granted: Result<Ptr, HeapFault>,
     log: &mut Log,

@@ -7,7 +7,7 @@ use wb_basics::memory::NoMemory;
 pub enum DebugFault {
     /// The workbench's own memory ran out. A full simulated heap never causes this.
     NoMemory = 1,
-    /// The shape has a least length or a growth step that no heap may have.
+    /// The shape has a least length or a growth step that isn't allowed.
     BadShape = 2,
 }
 

@@ -1,4 +1,4 @@
-//! How many cells there are of each level, and a place below which the level has no cell. Nothing here knows which cells these are.
+//! For each level, how many cells it has, and a place below which it has no cell. The code here uses only these numbers, not the cells.
 
 ghost use Rattle.std.specs.Prelude.{◌≡◌, ℕ, ◌<◌, ◌≤◌, [], IfErr, IfOk, IfSome, length};
 ghost use Rattle.wb_debug.specs.LevelCounts.{Edits, IsAt, IsGapFor, counted_at, known_at, lowered_at, no_cells};
@@ -12,12 +12,12 @@ use std::marker::Model;
 pub struct Counted {
     /// How many cells were counted.
     pub count: u32,
-    /// None of these cells is below this place.
+    /// No counted cell is below this place.
     pub lowest: u32,
 }
 
 impl Counted {
-    /// Returns the count with `count` cells more, none of which is below `lowest`; `None` if the total doesn't fit into a `u32`.
+    /// Returns the count after adding `count` cells, none of which is below `lowest`; `None` if the total doesn't fit into a `u32`.
     pub fn with_more(self, count: u32, lowest: u32) -> Option<Counted>
         ensures { IfSome result (λ more. more ≡ with_more self count lowest) }
     {
@@ -34,7 +34,7 @@ impl Counted {
         })
     }
 
-    /// Returns the count with one cell less; a count of 0 stays 0.
+    /// Returns the count reduced by one cell; a count of 0 stays 0.
     pub fn one_less(self) -> Counted
         ensures { result ≡ one_less self }
     {
@@ -45,23 +45,23 @@ impl Counted {
     }
 }
 
-/// What is counted of one level.
+/// The count of one level.
 #[derive(Clone, Copy, Debug, Default, PartialEq, Eq)]
 pub struct LevelCount {
     pub level: u32,
     pub cells: Counted,
 }
 
-/// A table of counts, in order of level: it has an entry for each of the innermost levels that have had cells. The table has room for 64
-/// entries, so nothing here allocates memory. If one more level needs an entry, the entry of the outermost level is dropped, and from then
-/// on nothing is known of that level and of those outside it.
+/// A table of counts, in order of level, with an entry for each of the innermost levels that have had cells. The table has fixed room for
+/// 64 entries, so nothing here allocates memory. If the table is full and one more level needs an entry, the entry of the outermost level
+/// is dropped. From then on, the table doesn't know the count of the dropped level or of any level outside it.
 ///
-/// The entry of the innermost level is found at once, and any other by binary search. A level whose cells were all released keeps an entry
-/// with a count of 0 until its mark ends; a level that never had a cell has no entry.
+/// A search finds the entry of the innermost level at once, and any other entry by binary search. A level whose cells were all released
+/// keeps an entry with a count of 0 until its mark ends. A level that never had a cell has no entry.
 #[derive(Drop)]
 pub struct LevelCounts {
     counts: ArrayVec<LevelCount, 64>,
-    /// The least level of which the counts are known. A `u64`, since it may be one more than the greatest level.
+    /// The least level whose count is known. The type is `u64`, since the value may be one more than the greatest level.
     known_from: u64,
 }
 
@@ -76,7 +76,7 @@ impl Model for LevelCounts {
 }
 
 impl LevelCounts {
-    /// Returns the table without entries, in which every level is known to have no cell.
+    /// Returns a table without entries: every level is known to have no cell.
     pub fn new() -> LevelCounts
         ensures { result ≡ record { counts = []; known_from = 0 } }
     {
@@ -100,7 +100,7 @@ impl LevelCounts {
         }
     }
 
-    /// What is counted of a level; `None` if this isn't known.
+    /// The count of a level; `None` if the count isn't known.
     pub fn get(&self, level: u32) -> Option<Counted>
         ensures { result ≡ known_at self.now level }
     {
@@ -110,7 +110,7 @@ impl LevelCounts {
         Some(self.counted(level))
     }
 
-    /// What the table says of a level: no cells if it has no entry for it.
+    /// The count that the table's entry gives for a level: no cells if the level has no entry.
     fn counted(&self, level: u32) -> Counted
         ensures { result ≡ counted_at self.now.counts level }
     {
@@ -123,8 +123,8 @@ impl LevelCounts {
         }
     }
 
-    /// Counts `count` cells more of a level, none of which is below `lowest`. If the total doesn't fit into a `u32`, nothing is known any
-    /// more of this level and of those outside it.
+    /// Adds `count` cells of a level, none of which is below `lowest`. If the total doesn't fit into a `u32`, the count of this level and
+    /// of all levels outside it is no longer known.
     #[inline(always)]
     pub fn add(&mut self, level: u32, count: u32, lowest: u32)
         ensures { Edits (set_at self.old.counts level
@@ -157,7 +157,7 @@ impl LevelCounts {
         }
     }
 
-    /// Counts one cell less of a level.
+    /// Reduces the count of a level by one cell.
     pub fn take(&mut self, level: u32)
         ensures { Edits (set_at self.old.counts level (one_less (counted_at self.old.counts level)))
             self.old self.new }
@@ -171,7 +171,7 @@ impl LevelCounts {
         }
     }
 
-    /// Counts the cells of a level as cells of the level below.
+    /// From now on counts the cells of level `level` as cells of level `level - 1`.
     pub fn lower(&mut self, level: u32)
         requires { 1 ≤ level }
         ensures { Edits (lowered_at self.old.counts level) self.old self.new }
@@ -185,7 +185,7 @@ impl LevelCounts {
         }
     }
 
-    /// Removes the entry of a level, which has no cells from now on.
+    /// Removes the entry of a level; from now on the table says that this level has no cells.
     fn remove(&mut self, level: u32)
         ensures { Edits (set_at self.old.counts level no_cells) self.old self.new }
     {
@@ -194,7 +194,7 @@ impl LevelCounts {
         }
     }
 
-    /// Replaces what is counted of the level whose entry has index `at`.
+    /// Replaces the count of the level whose entry has index `at`.
     fn replace(&mut self, at: usize, level: u32, cells: Counted)
         requires { IsAt self.old.counts level at }
         ensures { Edits (set_at self.old.counts level cells) self.old self.new }
@@ -202,8 +202,8 @@ impl LevelCounts {
         self.counts[at] = LevelCount { level, cells };
     }
 
-    /// Inserts the entry of a level at the index where it belongs. If the table is full, the outermost level is forgotten, which may be
-    /// this level itself.
+    /// Inserts the entry of a level at the index where it belongs. If the table is full, the outermost level becomes unknown; this may be
+    /// the inserted level itself.
     #[cold]
     #[inline(never)]
     fn insert(&mut self, at: usize, count: LevelCount)
@@ -230,8 +230,8 @@ impl LevelCounts {
         self.known_from = self.known_from.max(u64::from(level) + 1);
     }
 
-    /// Returns the index of a level's entry, or as `Err` the index where the entry would go. The innermost level has the last entry, which
-    /// is looked at first: most calls are about that level.
+    /// Returns the index of a level's entry; if there is no entry, returns `Err` with the index where the entry would go. The search looks
+    /// first at the last entry, which is the innermost level's entry, because most calls are for the innermost level.
     fn search(&self, level: u32) -> Result<usize, usize>
         ensures found { IfOk result (IsAt self.now.counts level) }
         ensures absent { IfErr result (IsGapFor self.now.counts level) }

@@ -1,11 +1,12 @@
-//! The debug heap: a simulated heap that counts the attempts to get a cell, refuses those that are to fail, and checks nested marks.
+//! The debug heap: a simulated heap that counts the attempts to get a cell, decides which attempts fail, and checks nested marks.
 //!
-//! What decides whether an attempt fails is in `setting` (the script's own) and `rules` (the run's), what is kept of an attempt in `log`,
-//! the counts of the live cells in `tally`, and what a check counts in `checks`.
+//! The modules `setting` (the script's own setting) and `rules` (the run's rule) decide whether an attempt fails. The records of attempts
+//! are in `log`, the counts of the live cells are in `tally`, and the checks are in `checks`.
 #![tactic(auto)]
 
 pub use debug_heap::DebugHeap;
 pub use fault::DebugFault;
+pub use rules::cell_length;
 pub use wb_basics::memory::NoMemory;
 pub use wb_heap_model::heap::{Answer, Attempt, Gave, Header, Kind, Panic, Ptr, Rule, Shape};
 pub use wb_heap_model::reported::{Leak, Leaks, Note, Trace};

@@ -1,4 +1,5 @@
-//! What a heap keeps of its attempts: a line of each attempt, or only the rises. Nothing here knows how an attempt is answered.
+//! What a heap records about its attempts: a line for each attempt, or only the rises. The code here doesn't decide whether an attempt is
+//! granted.
 
 ghost use Rattle.std.specs.Prelude.{◌≡◌, ◌<◌, ◌^◌, false, true, IfOk, IsOk, OnOk, OnErr, IsSome, Some};
 ghost use Rattle.wb_heap_model.specs.Rises.{end_of_line};
@@ -13,10 +14,10 @@ use wb_heap_model::heap::{Answer, Attempt};
 use wb_heap_model::reported::Trace;
 use wb_heap_model::size::{Rise, Rises, top_of_rises};
 
-/// What is kept of the attempts that were made.
+/// The records of the attempts that were made.
 #[derive(Drop)]
 pub struct Log {
-    /// Empty if the rises are kept.
+    /// The lines; empty if the log keeps rises instead of lines.
     trace: Trace,
     rises: Option<Rises>,
 }
@@ -30,7 +31,7 @@ impl Model for Log {
 }
 
 impl Log {
-    /// Returns an empty log that keeps a line of each attempt.
+    /// Returns an empty log that keeps a line for each attempt.
     pub fn of_lines(alloc: Global) -> Log
         ensures { result ≡ first_log false }
     {
@@ -50,7 +51,7 @@ impl Log {
         }
     }
 
-    /// Returns a copy of the log, in memory of its own; `NoMemory` if the workbench's memory runs out.
+    /// Returns a copy of the log, in newly allocated memory; `NoMemory` if the workbench's memory runs out.
     pub fn try_copy(&self) -> Result<Log, NoMemory>
         ensures { IfOk result (λ copy. copy ≡ self.now) }
     {
@@ -62,14 +63,14 @@ impl Log {
         Ok(Log { trace, rises })
     }
 
-    /// The lines that are kept.
+    /// The lines that the log keeps.
     pub fn trace(&self) -> &Trace
         ensures { result.now ≡ self.now.trace }
     {
         &self.trace
     }
 
-    /// Gives up the log of a run that is over, and returns its lines.
+    /// Consumes the log of a run that is over, and returns the lines.
     pub fn into_trace(self) -> Trace
         ensures { result ≡ self.trace }
     {
@@ -77,7 +78,7 @@ impl Log {
         trace
     }
 
-    /// The rises that are kept.
+    /// The rises that the log keeps.
     pub fn rises(&self) -> &Rises
         requires { IsSome self.now.rises }
         ensures { Some result.now ≡ self.now.rises }
@@ -85,7 +86,7 @@ impl Log {
         self.rises.as_ref().unwrap()
     }
 
-    /// Gives up the log of a run that is over, and returns its rises.
+    /// Consumes the log of a run that is over, and returns the rises.
     pub fn into_rises(self) -> Rises
         requires { IsSome self.rises }
         ensures { Some result ≡ self.rises }
@@ -94,8 +95,8 @@ impl Log {
         rises.unwrap()
     }
 
-    /// Records one more attempt: its line, or, if the rises are kept, the rise that it is, if it is one. Returns whether anything was
-    /// added. A call that adds nothing never fails. On `Err` the log is as it was.
+    /// Records one more attempt. A log that keeps lines adds the attempt's line; a log that keeps rises adds a rise if the attempt is a
+    /// rise. Returns whether anything was added. A call that adds nothing never returns `Err`. After `Err`, the log is as it was.
     #[inline(always)]
     pub fn push(&mut self, line: Attempt) -> Result<bool, NoMemory>
         requires { end_of_attempt line < 2 ^ 32 }
@@ -120,7 +121,7 @@ impl Log {
         Ok(true)
     }
 
-    /// Removes what the last attempt added; `added` says whether it added anything.
+    /// Removes what the last attempt added to the log. `added` must say whether this attempt added anything.
     pub fn take_back(&mut self, added: bool)
         ensures { IsTakenBack self.old added self.new }
     {
@@ -137,7 +138,7 @@ impl Log {
         }
     }
 
-    /// The top of the last rise, in bytes; 0 if there is no rise yet, or if lines are kept.
+    /// The top of the last rise, in bytes; 0 if there is no rise yet, or if the log keeps lines.
     fn top(&self) -> u32
         ensures { result ≡ top_in self.now.rises }
     {

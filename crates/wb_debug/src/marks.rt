@@ -10,7 +10,7 @@ use crate::debug_heap::DebugHeap;
 use wb_heap_model::heap::Panic;
 
 impl DebugHeap {
-    /// Opens a mark: new cells are of a level one deeper. Source: Symbian OS v9 SDK reference, `__UHEAP_MARK`.
+    /// Opens a mark: from now on, new cells belong to a level that is one deeper. Source: Symbian OS v9 SDK reference, `__UHEAP_MARK`.
     pub fn mark(&mut self)
         requires { self.old.heap.level + 1 < 2 ^ 32 }
         ensures marked { self.new ≡ record self.old { heap = after_mark self.old.heap } }
@@ -19,10 +19,11 @@ impl DebugHeap {
         self.level += 1;
     }
 
-    /// Closes the innermost mark if exactly `n` live cells are of its level; these cells are then of the level below.
+    /// Closes the innermost mark if exactly `n` live cells belong to its level. These cells then belong to the next outer level.
     ///
-    /// `Panic::NO_OPEN_MARK` if no mark is open, and otherwise the panic of `check` if there are fewer or more cells; the heap is then as
-    /// it was. Source: Symbian OS v9 SDK reference, `__UHEAP_MARKEND` and `__UHEAP_MARKENDC`, and this project's profile for the levels.
+    /// Returns `Panic::NO_OPEN_MARK` if no mark is open; otherwise the panic of `check` if the level has fewer or more cells than `n`.
+    /// After a panic the heap is as it was. Source: Symbian OS v9 SDK reference, `__UHEAP_MARKEND` and `__UHEAP_MARKENDC`; this project's
+    /// profile for the levels.
     pub fn mark_end(&mut self, n: u32) -> Result<(), Panic>
         ensures refused { IfErr result (λ panic. mark_end_refusal self.old.heap n ≡ Some panic) }
         ensures fine { OnOk result (mark_end_refusal self.old.heap n ≡ None) }
@@ -45,8 +46,8 @@ impl DebugHeap {
 
     /// Expects exactly `n` live cells of the current level.
     ///
-    /// If there are fewer or more, `Panic::Alloc` names the place of the lowest, or 0 if there is none. Source: Symbian OS v9 SDK
-    /// reference, `__UHEAP_CHECK`, and this project's profile for the cell that is named.
+    /// If there are fewer or more such cells, `Panic::Alloc` names the place of the lowest such cell, or 0 if there is no such cell.
+    /// Source: Symbian OS v9 SDK reference, `__UHEAP_CHECK`; this project's profile for the named cell.
     pub fn check(&self, n: u32) -> Result<(), Panic>
         ensures refused { IfErr result (λ panic. check_refusal self.now n ≡ Some panic) }
         ensures fine { OnOk result (check_refusal self.now n ≡ None) }
@@ -55,8 +56,8 @@ impl DebugHeap {
         Ok(())
     }
 
-    /// Expects exactly `n` live cells of all levels together. The errors are those of `check`. Source: Symbian OS v9 SDK reference,
-    /// `__UHEAP_CHECKALL`, and this project's profile for the cell that is named.
+    /// Expects exactly `n` live cells of all levels together. If there are fewer or more such cells, `Panic::Alloc` names a cell as `check`
+    /// does. Source: Symbian OS v9 SDK reference, `__UHEAP_CHECKALL`; this project's profile for the named cell.
     pub fn check_all(&self, n: u32) -> Result<(), Panic>
         ensures refused { IfErr result (λ panic. check_all_refusal self.now n ≡ Some panic) }
         ensures fine { OnOk result (check_all_refusal self.now n ≡ None) }

@@ -1,4 +1,4 @@
-//! Notes: what the statements `heap`, `available` and `compress` report. Their lengths are in bytes.
+//! Notes: what the statements `heap`, `available` and `compress` report. The lengths in notes are in bytes.
 
 ghost use Rattle.std.specs.Prelude.{◌≡◌};
 ghost use Rattle.wb_heap_model.specs.Debug.{IsSoundDebug, debug_compressed, note_of_available, note_of_compress};
@@ -8,8 +8,8 @@ use crate::debug_heap::DebugHeap;
 use wb_heap_model::reported::Note;
 
 impl DebugHeap {
-    /// Notes the number of live cells, the sum of their cell lengths, and the committed length. Source: Symbian OS v9 SDK reference, RHeap,
-    /// and this project's profile for the committed length.
+    /// Returns a note of the number of live cells, the sum of their cell lengths, and the committed length. Source: Symbian OS v9 SDK
+    /// reference, RHeap, and this project's profile for the committed length.
     pub fn note_heap(&self) -> Note
         ensures { result ≡ note_of_heap self.now }
     {
@@ -17,8 +17,8 @@ impl DebugHeap {
         Note::Heap(count, total, self.heap.committed())
     }
 
-    /// Notes how many bytes below the committed length are free, and the length of the longest free run. Source: Symbian OS v9 SDK
-    /// reference, RHeap.
+    /// Returns a note of how many bytes below the committed length are free, and of the length of the longest free run. Source: Symbian OS
+    /// v9 SDK reference, RHeap.
     pub fn note_available(&self) -> Note
         ensures { result ≡ note_of_available self.now }
     {
@@ -26,8 +26,8 @@ impl DebugHeap {
         Note::Available(total, longest)
     }
 
-    /// Gives up committed length above the last live cell, and notes by how much it shrank. Source: Symbian OS v9 SDK reference, RHeap, and
-    /// this project's profile for the lengths.
+    /// Gives up unused committed length above the last live cell, and returns a note of the number of bytes by which the committed length
+    /// shrank. Source: Symbian OS v9 SDK reference, RHeap, and this project's profile for the lengths.
     pub fn note_compress(&mut self) -> Note
         ensures note { result ≡ note_of_compress self.old }
         ensures fallen { self.new ≡ debug_compressed self.old }

@@ -11,8 +11,8 @@ use crate::debug_heap::DebugHeap;
 use wb_heap_model::heap::{Header, Ptr};
 
 impl DebugHeap {
-    /// Returns the header of the cell that the pointer names; `None` exactly if it names no live cell. The cell's payload has one word for
-    /// each four bytes of its usable length.
+    /// Returns the header of the cell that the pointer names; `None` exactly if the pointer names no live cell. The cell's payload has one
+    /// word for each four bytes of the cell's usable length.
     pub fn header(&self, ptr: Ptr) -> Option<Header>
         ensures header { result ≡ option_map (λ c. c.head) (cell_at ptr self.now.heap.row) }
         ensures live { IfSome result (IsLiveIn self.now) }
@@ -31,8 +31,8 @@ impl DebugHeap {
         self.heap.payload(ptr, i)
     }
 
-    /// Whether a payload of `n` words holds the same words as the payload of another heap's cell at the same place. If neither was written
-    /// since it was all zeros, no word is read.
+    /// Whether a payload of `n` words holds the same words as the payload of another heap's cell at the same place. The function skips each
+    /// block of words that neither heap has written since the block was all zeros.
     pub fn has_payload_of(&self, ptr: Ptr, other: &DebugHeap, there: Ptr, n: u32) -> bool
         requires live { IsSome (cell_at ptr self.now.heap.row) }
         requires other_live { IsSome (cell_at there other.now.heap.row) }
@@ -73,7 +73,7 @@ impl DebugHeap {
         self.heap.set_payload_half(ptr, i, v);
     }
 
-    /// Copies the first `n` words of the payload of `from` to the start of the payload of `to`, which may be the same cell.
+    /// Copies the first `n` words of the payload of `from` to the start of the payload of `to`. `to` may be the same cell as `from`.
     pub fn copy_payload(&mut self, from: Ptr, to: Ptr, n: u32)
         requires from_live { IsSome (cell_at from self.old.heap.row) }
         requires to_live { IsSome (cell_at to self.old.heap.row) }
@@ -109,8 +109,9 @@ impl DebugHeap {
         self.heap.write_halves(ptr, i, halves);
     }
 
-    /// Copies `n` half words of the payload of `from`, from half word `fi` on, to half word `ti` and on of the payload of `to`, which may
-    /// be the same cell. The result is as if all were read before any was written.
+    /// Copies `n` half words from the payload of `from` into the payload of `to`. The source starts at half word `fi`, and the target
+    /// starts at half word `ti`. `to` may be the same cell as `from`. The result is as if all half words were read before any half word was
+    /// written.
     pub fn copy_halves(&mut self, from: Ptr, fi: u32, to: Ptr, ti: u32, n: u32)
         requires from_live { IsSome (cell_at from self.old.heap.row) }
         requires to_live { IsSome (cell_at to self.old.heap.row) }

@@ -1,5 +1,6 @@
-//! Readers for code that watches a run: the live cells by place, their number and total length, the committed length, the number of open
-//! marks, the script's own setting, and how places are chosen. Nothing here changes a heap.
+//! Functions with which other code watches a run. These functions read the committed length, the number and total length of the live cells,
+//! and the live cells themselves, by place. They also read the number of open marks, the script's own setting, and how places are chosen.
+//! No function here changes a heap.
 
 ghost use Rattle.std.specs.Prelude.{◌≡◌, ◌↔◌, true, length};
 ghost use Rattle.wb_heap_model.specs.LimitedHeap.{next_live_of};
@@ -9,9 +10,9 @@ use crate::debug_heap::DebugHeap;
 use wb_heap_model::heap::Header;
 
 impl DebugHeap {
-    /// The first live cell that begins at this place, in bytes, or above it; `None` if there is none.
+    /// Returns the header of the first live cell that begins at place `from`, in bytes, or above; `None` if there is no such cell.
     ///
-    /// Called with place 0, and then with the end of each cell returned, it gives every live cell in order of place.
+    /// To get every live cell in order of place, call this function with place 0, and then with the end of each cell that it returns.
     pub fn next_live(&self, from: u32) -> Option<Header>
         ensures { result ≡ next_live_of from (headers self.now.heap.row) }
     {
@@ -40,15 +41,15 @@ impl DebugHeap {
         self.level
     }
 
-    /// Whether the script's own setting is at the same point as in another heap: counted from here on, it makes the same attempts fail in
-    /// both.
+    /// Whether the script's own setting is the same in this heap and in `other`, counted from the next attempt of each heap.
     pub fn has_setting_of(&self, other: &DebugHeap) -> bool
         ensures { (result ≡ true) ↔ (other.now.heap.setting ≡ self.now.heap.setting) }
     {
         other.setting == self.setting
     }
 
-    /// Whether both heaps choose places alike: cells that grow always move in both, or in neither.
+    /// Whether both heaps choose places by the same policy: either growing cells always move in both heaps, or growing cells stay in both
+    /// heaps if they can.
     pub fn chooses_places_of(&self, other: &DebugHeap) -> bool
         ensures { (result ≡ true) ↔ (other.now.heap.placement ≡ self.now.heap.placement) }
     {

@@ -1,5 +1,5 @@
-//! What is answered to an attempt, how long a heap may be under a rule, and how long the cell for a request is, in bytes. Nothing here
-//! knows a heap.
+//! Decides whether an attempt is granted, how long a heap may be under a rule, and how long the cell for a request is, in bytes. No
+//! function here uses a heap.
 
 ghost use Rattle.std.specs.Prelude.{◌≡◌, ◌≤◌, if◌then◌else◌};
 ghost use Rattle.wb_heap_model.specs.LimitedHeap.{IsCellLength};
@@ -10,7 +10,8 @@ ghost use Rattle.wb_heap_model.specs.Space.{limit_under};
 use wb_basics::limits::CEILING;
 use wb_heap_model::heap::{Answer, Rule};
 
-/// Returns how a rule makes the attempt with this number fail, whose cell would end at `end`; `None` if the rule doesn't.
+/// Returns how a rule makes the attempt with this number fail; `None` if the rule doesn't make the attempt fail. The cell of this attempt
+/// would end at `end`.
 fn refusal(rule: &Rule, number: u32, end: u32) -> Option<Answer>
     ensures { result ≡ refusal_of rule.now number end }
 {
@@ -32,8 +33,9 @@ fn refusal(rule: &Rule, number: u32, end: u32) -> Option<Answer>
     }
 }
 
-/// Returns the answer to an attempt whose cell would end at `end`; `None` if the ceiling cuts the run. `due` says whether the script's own
-/// setting makes the attempt fail; it is asked before the rule.
+/// Returns the answer to an attempt whose cell would end at `end`. Returns `None` if neither the setting nor the rule makes the attempt
+/// fail, but `end` is past the ceiling; the ceiling then cuts the run. `due` says whether the script's own setting makes the attempt fail.
+/// The setting is checked before the rule.
 pub fn answer(due: bool, rule: &Rule, number: u32, end: u32) -> Option<Answer>
     ensures { result ≡ (if due then Some Answer.Simulated
         else unless_refused (refusal_of rule.now number end) end) }
@@ -62,7 +64,7 @@ pub fn limit_under(rule: &Rule) -> u32
     }
 }
 
-/// Returns the cell length for a request of `bytes` bytes, header included.
+/// Returns the cell length for a request of `bytes` bytes, including the header.
 pub fn cell_length(bytes: u32) -> u32
     requires { bytes ≤ CEILING }
     ensures exact { result ≡ cell_length bytes }

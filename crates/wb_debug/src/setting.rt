@@ -1,23 +1,23 @@
-//! Which attempts the script itself asks to fail.
+//! Which attempts the script itself makes fail.
 
 ghost use Rattle.std.specs.Prelude.{◌≡◌};
 ghost use Rattle.wb_debug.specs.Setting.{setting_of};
 ghost use Rattle.wb_heap_model.specs.Rules.{is_due, after_attempt};
 
-/// The script's own setting. Source: Symbian OS v9 SDK reference, RHeap, for which attempts it makes fail.
+/// The script's own setting. The Symbian OS v9 SDK reference, RHeap, is the source for which attempts the setting makes fail.
 #[derive(Clone, Copy, Debug, PartialEq, Eq)]
 pub enum Setting {
-    /// No attempt fails.
+    /// The setting makes no attempt fail.
     Never,
-    /// The attempt fails that is this many attempts ahead; 1 is the next attempt.
+    /// One attempt fails: the attempt that is this many attempts ahead; 1 is the next attempt.
     Next(u32),
-    /// Every attempt fails whose count since the setting was made is a multiple of the first value. The second value is how many attempts
-    /// ahead the next one is that fails; 1 is the next attempt.
+    /// Every `n`-th attempt since the setting was made fails; `n` is the first value. The second value says how many attempts ahead the
+    /// next failing attempt is; 1 is the next attempt.
     Each(u32, u32),
 }
 
 impl Setting {
-    /// Whether the next attempt is to fail.
+    /// Whether the setting makes the next attempt fail.
     pub fn is_due(self) -> bool
         ensures { result ≡ is_due (setting_of self) }
     {
@@ -27,7 +27,7 @@ impl Setting {
         }
     }
 
-    /// Returns the setting after one more attempt was counted.
+    /// Returns the setting as it is after one more attempt.
     pub fn after_attempt(self) -> Setting
         ensures { setting_of result ≡ after_attempt (setting_of self) }
     {

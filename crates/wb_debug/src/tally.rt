@@ -1,5 +1,5 @@
-//! Counts of the live cells, kept beside the cells: how many there are of all levels together, and of each level. So a check needn't go
-//! through the cells.
+//! Counts of the live cells: the number in all levels together, and the number in each level. These counts are stored apart from the cells,
+//! so a check needn't go through the cells.
 
 ghost use Rattle.std.specs.Prelude.{◌≡◌, ℕ, ◌+◌, ◌<◌, ◌≤◌, ◌^◌, List, []};
 ghost use Rattle.wb_heap_model.specs.declared.heap.Header.{Header};
@@ -13,7 +13,7 @@ use crate::level_counts::{Counted, LevelCounts};
 use std::marker::Model;
 use wb_heap_model::heap::Header;
 
-/// How many live cells there are of all levels together, and of each level for which this is known. The cleanup stack's cell is of no
+/// The number of live cells in all levels together, and in each level for which the number is known. The cleanup stack's cell belongs to no
 /// level.
 ///
 /// A tally allocates no memory, so no call on it can run out of memory.
@@ -52,21 +52,21 @@ impl Tally {
         }
     }
 
-    /// How many cells there are of all levels.
+    /// The number of cells in all levels together.
     pub fn total(&self) -> u32
         ensures { result ≡ self.now.total }
     {
         self.total
     }
 
-    /// What is counted of a level; `None` if this isn't known.
+    /// The count of a level; `None` if the count isn't known.
     pub fn of_level(&self, level: u32) -> Option<Counted>
         ensures { result ≡ known_at self.now.levels level }
     {
         self.levels.get(level)
     }
 
-    /// Counts a cell that was granted.
+    /// Adds a granted cell to the counts.
     pub fn grant(&mut self, cell: Header)
         requires room { self.old.total + 1 < 2 ^ 32 }
         ensures { (row more : List Header) → IsMore row more cell → IsTally self.old row →
@@ -78,7 +78,7 @@ impl Tally {
         }
     }
 
-    /// No longer counts a cell, which was freed.
+    /// Removes a freed cell from the counts.
     pub fn release(&mut self, cell: Header)
         ensures { (row less : List Header) → IsMore less row cell → IsTally self.old row →
             IsTally self.new less }
@@ -89,7 +89,7 @@ impl Tally {
         }
     }
 
-    /// Takes note that a cell has moved to another place; its level and its kind stay.
+    /// Records that a cell has moved to another place. The cell's level and kind stay the same.
     pub fn put_at(&mut self, cell: Header, place: u32)
         ensures { (row new : List Header) (moved : Header) → IsOther row new cell moved →
             moved.kind ≡ cell.kind → moved.level ≡ cell.level → moved.place ≡ place →
@@ -100,7 +100,7 @@ impl Tally {
         }
     }
 
-    /// Counts each cell of a level as one of the level below.
+    /// From now on counts each cell of level `level` as a cell of level `level - 1`.
     pub fn lower(&mut self, level: u32)
         requires { 1 ≤ level }
         ensures { (row : List (Cell (List ℕ))) → IsTally self.old (headers row) →

@@ -1,14 +1,14 @@
-//! What a machine shows before a turn, and no longer shows after that turn.
+//! What a machine shows before a turn, and would no longer show after the turn.
 
 use wb_heap_model::heap::{Attempt, Header, Item, Ptr};
 use wb_history::{Ahead, live_at};
 use wb_machine::Machine;
 use wb_tree::script::{Condition, Number, Statement};
 
-/// What a statement's numbers, or its condition, come to.
+/// The value of a statement's numbers or of its condition.
 #[derive(Clone, Copy, Debug, PartialEq, Eq)]
 pub(crate) enum Value {
-    /// The statement has no value that is worth saying.
+    /// The statement has no value that the rows show.
     None,
     Number(i64),
     Holds(bool),
@@ -17,10 +17,10 @@ pub(crate) enum Value {
 /// What a machine shows before a turn.
 #[derive(Clone, Copy)]
 pub(crate) struct Before<'a> {
-    /// The statement that the turn is to begin; `None` if it begins none.
+    /// The statement that the turn will begin; `None` if the turn begins no statement.
     pub(crate) ahead: Option<Ahead<'a>>,
-    /// The live cell named by the pointer that this statement reads; if the turn begins no statement, the live cell that the newest item
-    /// frees. `None` if there is none.
+    /// The live cell named by the pointer that the turn's statement reads. If the turn begins no statement, the live cell that the newest
+    /// item of the cleanup stack frees. `None` if there is no such cell.
     pub(crate) cell: Option<Header>,
     pub(crate) value: Value,
     pub(crate) steps: u32,
@@ -31,7 +31,7 @@ pub(crate) struct Before<'a> {
 }
 
 impl<'a> Before<'a> {
-    /// Looks at a machine; `newest` is the newest item on its cleanup stack.
+    /// Records what a machine shows before a turn. `newest` is the newest item on the machine's cleanup stack.
     pub(crate) fn of(machine: &Machine<'a>, newest: Option<Item>) -> Before<'a> {
         let ahead = Ahead::of(machine);
         let (cell, value) = match ahead {
@@ -53,7 +53,7 @@ impl<'a> Before<'a> {
         }
     }
 
-    /// Returns the attempt that the turn made, if it made one.
+    /// Returns the attempt that the turn made; `None` if the turn made no attempt.
     pub(crate) fn attempt(&self, machine: &Machine<'a>) -> Option<Attempt> {
         if machine.attempts() > self.attempts {
             machine.last_attempt()
@@ -63,7 +63,7 @@ impl<'a> Before<'a> {
     }
 }
 
-/// Returns the live cell that a pointer names; `None` if it names none.
+/// Returns the live cell that a pointer names; `None` if the pointer names no live cell.
 pub(crate) fn live_cell(machine: &Machine<'_>, pointer: Ptr) -> Option<Header> {
     let cell = live_at(machine, pointer.place)?;
     if cell.number == pointer.number {
@@ -73,7 +73,7 @@ pub(crate) fn live_cell(machine: &Machine<'_>, pointer: Ptr) -> Option<Header> {
     }
 }
 
-/// The live cell that an item frees; `None` if it frees none.
+/// The live cell that an item frees; `None` if the item frees no live cell.
 fn cell_of(machine: &Machine<'_>, item: Option<Item>) -> Option<Header> {
     match item {
         Some(Item::Free(pointer)) => live_cell(machine, pointer),

@@ -1,4 +1,4 @@
-//! What a machine turn begins, and where.
+//! What a machine turn begins, and at which line.
 
 use crate::open::{BegunAt, Doomed, ItemAt, RepeatAt};
 use wb_history::Ahead;
@@ -6,7 +6,7 @@ use wb_history::Ahead;
 /// What a machine turn begins.
 #[derive(Clone, Copy)]
 pub(crate) enum What<'a> {
-    /// The run: the cell of the cleanup stack is asked for.
+    /// The run: the turn asks the heap for the cell of the cleanup stack.
     Run,
     Statement(Ahead<'a>),
     /// A turn of a `repeat`.
@@ -19,12 +19,12 @@ pub(crate) enum What<'a> {
     Nothing,
 }
 
-/// What a machine turn begins, at which line, and how many bodies run there.
+/// What a machine turn begins, at which line, and how many bodies run at that time.
 #[derive(Clone, Copy)]
 pub(crate) struct Begun<'a> {
     pub(crate) what: What<'a>,
     pub(crate) line: u32,
     pub(crate) depth: u32,
-    /// The previous statement that was begun at the same depth.
+    /// The statement that was begun last at the same depth, before this turn.
     pub(crate) after: BegunAt,
 }

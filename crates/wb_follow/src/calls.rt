@@ -1,4 +1,4 @@
-//! What calls of procedures pass and give: the values of parameters where a body begins, and null where a body ends without a pointer.
+//! What calls of procedures pass and return: the values of parameters when a body begins, and null when a body ends without a pointer.
 
 use crate::begun::{Begun, What};
 use crate::rows::Rows;
@@ -8,19 +8,19 @@ use wb_history::has_panicked;
 use wb_machine::Machine;
 use wb_tree::script::{Holder, Number, Parameter, Pointer, Statement};
 
-/// What the statement of a row did, as far as the next row depends on it.
+/// What the statement of a row did, as far as this matters for the next row.
 #[derive(Clone, Copy)]
 pub(crate) enum Did {
-    /// It left.
+    /// The statement left.
     Left,
-    /// It returned a pointer.
+    /// The statement returned a pointer.
     Returned,
-    /// It called a procedure by `callto`.
+    /// The statement called a procedure by `callto`.
     CalledTo,
     Other,
 }
 
-/// What a machine turn did whose statement didn't leave.
+/// What a machine turn did. The turn's statement must not have left.
 pub(crate) fn done_by(begun: Begun<'_>) -> Did {
     match begun.what {
         What::Statement(ahead) => match ahead.statement {
@@ -32,7 +32,8 @@ pub(crate) fn done_by(begun: Begun<'_>) -> Did {
     }
 }
 
-/// Whether a body that a `callto` called came to its end without a pointer, between a row that did this at a depth and the next row.
+/// Whether a body that was called by `callto` ended without a pointer between two successive rows. `did` and `depth` are those of the first
+/// row. `next` is what the second row begins.
 pub(crate) fn gives_null(did: Did, depth: u32, next: Begun<'_>) -> bool {
     match did {
         Did::Left => false,
@@ -42,7 +43,7 @@ pub(crate) fn gives_null(did: Did, depth: u32, next: Begun<'_>) -> bool {
     }
 }
 
-/// Says what the parameters of the procedure are that a statement has called, if the body has begun.
+/// Says which values the parameters of a called procedure have, if the statement called a procedure whose body has begun.
 pub(crate) fn put_arguments<'a>(
     rows: &mut Rows,
     machine: &Machine<'a>,
@@ -75,7 +76,7 @@ pub(crate) fn put_arguments<'a>(
     }
 }
 
-/// Says what a parameter of the body is that has begun, by its name and by its index among the locals.
+/// Says which value a parameter has in the body that has begun. `name` is the parameter's name, and `local` its index among the locals.
 fn put_argument(
     rows: &mut Rows,
     machine: &Machine<'_>,

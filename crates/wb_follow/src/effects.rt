@@ -1,5 +1,4 @@
-//! What a machine turn did, as the words of its row: first what the statement or the destruction did that it began, and then what came of
-//! that.
+//! What a machine turn did, as the words of the turn's row: first what the turn's statement or destruction did, then what followed from it.
 
 use crate::before::Before;
 use crate::begun::{Begun, What};
@@ -11,7 +10,7 @@ use wb_heap_model::heap::Item;
 use wb_history::{Ahead, has_panicked};
 use wb_machine::Machine;
 
-/// Says what a machine turn did, and keeps `open` up to date. Returns whether the turn's statement left.
+/// Says what a machine turn did, and brings `open` up to date. Returns whether the statement of the turn left.
 pub(crate) fn put_effects<'a>(
     rows: &mut Rows,
     machine: &Machine<'a>,
@@ -45,14 +44,14 @@ pub(crate) fn put_effects<'a>(
     leaves
 }
 
-/// Says what became of the first attempt.
+/// Says what became of the run's first attempt.
 fn put_first(rows: &mut Rows, machine: &Machine<'_>, before: &Before<'_>, open: &mut Open) {
     if let Some(attempt) = before.attempt(machine) {
         put_attempt(rows, machine, attempt, None, open);
     }
 }
 
-/// Says how many items are left, if a turn pushed, popped or destroyed some.
+/// Says how many items remain on the cleanup stack, if the turn pushed, popped or destroyed items.
 fn put_items(rows: &mut Rows, machine: &Machine<'_>, before: &Before<'_>) {
     let items = machine.cleanup_depth();
     if items != before.items {
@@ -61,7 +60,7 @@ fn put_items(rows: &mut Rows, machine: &Machine<'_>, before: &Before<'_>) {
     }
 }
 
-/// Says with which code a statement left, which TRAP caught the leave, and how many items are destroyed because of it.
+/// Says with which code a statement left, which TRAP caught the leave, and how many items are destroyed because of the leave.
 fn put_leave<'a>(rows: &mut Rows, machine: &Machine<'a>, ahead: Ahead<'a>, open: &mut Open) {
     rows.effect_text("leaves with ");
     rows.value(i64::from(ahead.code()));
@@ -85,7 +84,7 @@ fn put_destroyed(rows: &mut Rows, items: u32) {
     }
 }
 
-/// Says what becomes of an item that is destroyed.
+/// Says what the destruction of an item does.
 fn put_item(rows: &mut Rows, before: &Before<'_>, newest: ItemAt) {
     match newest.item {
         Item::Free(pointer) => put_free(rows, pointer, before.cell),
@@ -100,7 +99,7 @@ fn put_item(rows: &mut Rows, before: &Before<'_>, newest: ItemAt) {
     }
 }
 
-/// Says which objects were released, and what the committed length and the level are if they have changed.
+/// Says which objects were freed. Also says the new committed length and the new level, each only if it has changed.
 fn put_heap(rows: &mut Rows, machine: &Machine<'_>, before: &Before<'_>, open: &mut Open) {
     let (deleted, _) = open.counts();
     for _ in 0..deleted {

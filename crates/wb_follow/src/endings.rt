@@ -1,4 +1,4 @@
-//! How a run that is followed ends, and after how many steps. A run made beforehand finds this out.
+//! How a run that is followed ends, and after how many steps. To find this out, the run is made once beforehand.
 
 ghost use Rattle.std.specs.Prelude.{◌≤◌, IsTrue};
 ghost use Rattle.wb_tree.specs.Sound.{is_script};
@@ -18,18 +18,19 @@ use wb_tree::script::Script;
 pub(crate) struct Ending {
     pub(crate) steps: u32,
     end: RunEnd,
-    /// The code with which `main` is left; `None` if it isn't left.
+    /// The code with which `main` leaves; `None` if `main` doesn't leave.
     left: Option<i32>,
 }
 
 impl Ending {
-    /// Whether the last step asks for a cell that would end past the greatest length of a heap.
+    /// Whether the run's last step asks for a cell that would end past the greatest length that a heap may have.
     pub(crate) fn is_at_ceiling(self) -> bool {
         self.end == RunEnd::Cut(Why::Ceiling)
     }
 }
 
-/// Runs a script to its end, and returns how it ends; `None` if no heap may have this shape. The only error is that memory ran out.
+/// Runs a script to the end, and returns how the run ends; `None` if no heap may have the shape that the parameters ask for. The only error
+/// is that memory ran out.
 pub(crate) fn ending_of(
     alloc: Global,
     script: &Script,
@@ -57,7 +58,7 @@ fn code_of(outcome: &Outcome) -> Option<i32> {
     }
 }
 
-/// Writes the last row: how the run ends.
+/// Writes the last row, which says how the run ends.
 pub(crate) fn put_ending(rows: &mut Rows, ending: Ending) {
     rows.begin(true);
     rows.head("end", "");

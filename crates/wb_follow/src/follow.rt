@@ -1,4 +1,4 @@
-//! A run that is followed: its heading, its turns, and its end.
+//! Follows a run: writes its heading, its turns, and its end.
 
 ghost use Rattle.std.specs.Prelude.{◌≤◌, IsTrue};
 ghost use Rattle.wb_tree.specs.Sound.{is_script};
@@ -14,25 +14,25 @@ use wb_basics::memory::NoMemory;
 use wb_history::{RunParameters, ScriptLines, machine_of};
 use wb_tree::script::Script;
 
-/// What is said if the workbench runs out of memory, after the rows that were written.
+/// The note after the rows that were written, if the workbench runs out of memory.
 const NO_MEMORY: &str = "note: memory ran out, so the rest of the run isn't followed\n";
 
-/// What is said if the run makes fewer attempts than the one around which it is to be followed.
+/// The note if the run makes fewer attempts than the number of the attempt to be followed.
 const NO_ATTEMPT: &str = "note: the run ends before the attempt of '--follow-around'\n";
 
-/// The least width of the columns of steps and lines: that of their headings.
+/// The least width of the column of steps and of the column of lines: the width of their headings.
 const LEAST_WIDTH: usize = 4;
 
-/// The least width of the column of statements, and the greatest.
+/// The least width of the column of statements. `MOST_STATEMENT` is the greatest width of this column.
 const LEAST_STATEMENT: usize = 20;
 
 const MOST_STATEMENT: usize = 22;
 
-/// How many columns are left for the indentation of statements.
+/// How many columns are kept free for the indentation of statements.
 const MOVED: usize = 2;
 
-/// Writes the run of a script with these parameters as rows, of which those of the steps are shown that are asked for. If memory runs out,
-/// the other rows are left out, and a note says so.
+/// Writes the run of a script with these parameters as rows, but only the rows of the steps that `asked` selects. If memory runs out, the
+/// remaining rows are left out, and a note says so.
 pub fn follow_run<O: RowSink>(
     alloc: Global,
     lines: &ScriptLines<'_>,
@@ -50,7 +50,7 @@ pub fn follow_run<O: RowSink>(
     }
 }
 
-/// Does what `follow_run` does, without the note. The only error is that memory ran out.
+/// Does what `follow_run` does, but writes no note if memory runs out. The only error is that memory ran out.
 fn follow_all<O: RowSink>(
     alloc: Global,
     lines: &ScriptLines<'_>,

@@ -1,4 +1,5 @@
-//! What is open in a run: items of the cleanup stack, TRAPs and turns of a `repeat`, each with its line, and objects whose destructor runs.
+//! What is open in a run: items of the cleanup stack, TRAPs, turns of a `repeat`, and objects whose destructor runs. Items, TRAPs and turns
+//! are kept with their lines.
 
 use crate::before::{Before, Value, live_cell};
 use crate::begun::{Begun, What};
@@ -16,21 +17,21 @@ pub(crate) struct ItemAt {
     pub(crate) line: u32,
 }
 
-/// A line, and how many bodies run there.
+/// A line, and how many bodies run while the line runs.
 #[derive(Clone, Copy)]
 pub(crate) struct At {
     pub(crate) line: u32,
     depth: u32,
 }
 
-/// A TRAP of the script, and how many items were on the cleanup stack when it began.
+/// A TRAP of the script, and how many items were on the cleanup stack when the TRAP began.
 #[derive(Clone, Copy)]
 pub(crate) struct TrapAt {
     pub(crate) at: At,
     pub(crate) items: u32,
 }
 
-/// A `repeat`, where it is, and how many of its turns were begun.
+/// A `repeat`, its position, and how many of its turns were begun.
 #[derive(Clone, Copy)]
 pub(crate) struct RepeatAt {
     line: u32,
@@ -40,7 +41,7 @@ pub(crate) struct RepeatAt {
     pub(crate) turns: i64,
 }
 
-/// The line of a statement that was begun, and whether it is a `callto` that no leave has ended.
+/// The line of a statement that was begun, and whether the statement is a `callto` that no leave has ended.
 #[derive(Clone, Copy)]
 pub(crate) struct BegunAt {
     pub(crate) line: u32,
@@ -52,27 +53,28 @@ const NOT_BEGUN: BegunAt = BegunAt {
     calls_to: false,
 };
 
-/// All that is open.
+/// All things that are open in a run.
 pub(crate) struct Open {
     items: Vec<ItemAt>,
     traps: Vec<TrapAt>,
     repeats: Vec<RepeatAt>,
-    /// The cells of objects whose destructor runs, the innermost last. A cell that its own destructor freed has number 0 here.
+    /// The cells of objects whose destructor runs, the innermost last. If the destructor freed its object's cell, the cell has number 0
+    /// here.
     deleted: Vec<Header>,
     /// The place of the cleanup stack's cell.
     stack: u32,
-    /// The object that the next machine turn begins to destroy; `None` if that turn begins something else.
+    /// The object that the next machine turn begins to destroy; `None` if the next turn begins something else.
     doomed: Option<Doomed>,
-    /// The line because of which items are being destroyed, and how many bodies run there.
+    /// The line that caused the present destruction of items, and how many bodies run during the destruction.
     undone_at: At,
-    /// The line and the depth of what was begun last.
+    /// The line and the depth of the last thing that was begun.
     last: At,
-    /// For each depth, which is how many bodies run, the statement that was begun last there.
+    /// The statement that was begun last at each depth; the depth is the number of bodies that run.
     lines: Vec<BegunAt>,
 }
 
-/// Written by hand, so that a proof about a function that drops such a value has a single call there, and only this function goes over
-/// the fields.
+/// This `drop` is written by hand, so that dropping an `Open` is a single call in a proof. Only the proof of `drop` itself goes over the
+/// fields.
 impl Drop for Open {
     fn drop(self) {
         let Open {
@@ -89,7 +91,7 @@ impl Drop for Open {
     }
 }
 
-/// An object that is to be destroyed, with its cell; `None` if the pointer names none.
+/// An object that is to be destroyed, with its cell. The cell is `None` if the pointer names no live cell.
 #[derive(Clone, Copy)]
 pub(crate) struct Doomed {
     pub(crate) pointer: Ptr,
@@ -99,7 +101,7 @@ pub(crate) struct Doomed {
 const NOWHERE: At = At { line: 0, depth: 1 };
 
 impl Open {
-    /// Nothing is open yet. The only error is that memory ran out.
+    /// Begins with nothing open. The only error is that memory ran out.
     pub(crate) fn new(alloc: Global) -> Result<Open, AllocError> {
         let mut lines = Vec::new(alloc);
         lines.resize(MOST_FRAMES as usize + 2, NOT_BEGUN)?;
@@ -116,7 +118,7 @@ impl Open {
         })
     }
 
-    /// Returns the newest item on the cleanup stack; `None` if there is none.
+    /// Returns the newest item on the cleanup stack; `None` if the cleanup stack is empty.
     pub(crate) fn newest(&self) -> Option<Item> {
         self.items.last().map(|it| it.item)
     }
@@ -126,12 +128,13 @@ impl Open {
         (self.deleted.len(), self.traps.len())
     }
 
-    /// The statement that was begun last at this depth.
+    /// Returns the statement that was begun last at this depth.
     fn begun_at(&self, depth: u32) -> BegunAt {
         self.lines.get(depth as usize).copied().unwrap_or(NOT_BEGUN)
     }
 
-    /// Sees what the last machine turn began, and returns it. The only error is that memory ran out.
+    /// Finds out what the last machine turn began, brings the open things up to date, and returns what the turn began. The only error is
+    /// that memory ran out.
     pub(crate) fn begin<'a>(
         &mut self,
         machine: &Machine<'a>,
@@ -156,7 +159,7 @@ impl Open {
         Ok(begun)
     }
 
-    /// Sees an object that is to be destroyed or that begins to be, or a cell that the cleanup stack frees.
+    /// Takes note of an object that is to be destroyed or whose destruction begins, or of a cell that the cleanup stack frees.
     fn see_destruction(&mut self, machine: &Machine<'_>, what: What<'_>) -> Result<(), AllocError> {
         match what {
             What::Item(
@@ -212,8 +215,8 @@ impl Open {
         begun_at(What::TurnOf(repeat), at)
     }
 
-    /// The next turn of the innermost `repeat` that isn't over. A `repeat` inside it that is over may have stayed in the list, and is taken
-    /// off.
+    /// Returns the next turn of the innermost `repeat` that isn't over. Each `repeat` inside this one is over, and is removed from the list
+    /// first.
     fn next_turn(&mut self) -> RepeatAt {
         for _ in 0..self.repeats.len() {
             if let Some(repeat) = self.repeats.last_mut()
@@ -255,7 +258,7 @@ impl Open {
         Ok(())
     }
 
-    /// An object is to be destroyed in the next machine turn, unless the pointer is null.
+    /// Takes note that the next machine turn begins to destroy this object, unless the pointer is null.
     fn doom(&mut self, machine: &Machine<'_>, pointer: Ptr) {
         if pointer.number != 0 {
             let cell = live_cell(machine, pointer);
@@ -281,7 +284,7 @@ impl Open {
         Ok(())
     }
 
-    /// The body that runs returns, which ends all its `repeat`s.
+    /// Removes every `repeat` of the body that returns.
     fn end_repeats(&mut self) {
         for _ in 0..self.repeats.len() {
             let depth = self.repeats.last().map_or(0, |it| it.depth);
@@ -292,8 +295,8 @@ impl Open {
         }
     }
 
-    /// A leave ends the innermost TRAP and all bodies and blocks inside it. The items that are destroyed then are destroyed because of the
-    /// line that left. Returns that TRAP; `None` if `main` is left.
+    /// Ends the innermost TRAP and all bodies and blocks inside this TRAP, because of a leave. The line that left becomes the line that
+    /// caused the destruction of items. Returns the TRAP; `None` if the leave ends `main`.
     pub(crate) fn leave(&mut self) -> Option<TrapAt> {
         let caught = self.traps.pop();
         let traps = self.traps.len();
@@ -319,7 +322,7 @@ impl Open {
         caught
     }
 
-    /// Takes off the innermost TRAP that has ended, and returns it; `None` if every TRAP that was open still is.
+    /// Removes the innermost TRAP if it has ended, and returns it; `None` if no TRAP has ended since the last call.
     pub(crate) fn next_ended(&mut self, machine: &Machine<'_>) -> Option<TrapAt> {
         if self.traps.len() > machine.open_traps() {
             self.traps.pop()
@@ -328,8 +331,8 @@ impl Open {
         }
     }
 
-    /// Takes off the cell of the innermost object, if the object has been destroyed, and returns the cell; `None` if that object's
-    /// destructor still runs, or if it freed the cell itself.
+    /// If the innermost object has been destroyed, removes its cell from the list and returns the cell. Returns `None` if the object's
+    /// destructor still runs, or if the destructor itself freed the cell.
     pub(crate) fn next_released(&mut self, machine: &Machine<'_>) -> Option<Header> {
         let newest = *self.deleted.last()?;
         if live_cell(machine, newest.pointer()).is_some() {
@@ -343,7 +346,7 @@ impl Open {
         Some(newest)
     }
 
-    /// A cell is freed, which may be that of an object whose destructor runs.
+    /// Takes note that a cell is freed, because the cell may belong to an object whose destructor runs.
     fn forget(&mut self, pointer: Ptr) {
         for cell in self.deleted.as_mut_slice() {
             if cell.number == pointer.number {
@@ -352,7 +355,7 @@ impl Open {
         }
     }
 
-    /// Notes the new place of the cleanup stack's cell, and returns its old place.
+    /// Takes note of the new place of the cleanup stack's cell, and returns its old place.
     pub(crate) fn move_stack(&mut self, place: u32) -> u32 {
         let before = self.stack;
         self.stack = place;

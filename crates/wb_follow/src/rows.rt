@@ -1,27 +1,27 @@
-//! The rows of a run that is followed: their columns, and how they go out.
+//! The rows of a run that is followed: their columns, and how they are handed to the sink.
 
 use std::alloc::{AllocError, Global};
 use std::fmt::{Display, Write};
 use wb_basics::memory::NoMemory;
 
-/// How many bytes of whole rows are kept before they go out.
+/// How many bytes of whole rows are kept before the rows are handed to the sink.
 const MOST_KEPT: usize = 8192;
 
-/// How many columns a row has at most, unless a single word needs more.
+/// The most columns of a row, unless a single word needs more columns.
 const MOST_COLUMNS: usize = 80;
 
-/// What is written instead of the rest of a statement.
+/// The characters that replace the rest of a long statement.
 const ELLIPSIS: &str = "...";
 
-/// How many columns a statement is indented for each body that called its own.
+/// How many columns a statement is indented for each call that led to the statement's body.
 const INDENT: usize = 2;
 
-/// The most bodies for which a statement is indented.
+/// The most calling bodies for which a statement is indented.
 const MOST_INDENTS: u32 = 8;
 
-/// Where rows go.
+/// A receiver of rows.
 pub trait RowSink {
-    /// Takes whole rows. Returns `false` if it takes no more of them.
+    /// Takes whole rows. Returns `false` if the sink takes no more rows.
     fn take_rows(&mut self, rows: &str) -> bool;
 }
 
@@ -34,7 +34,7 @@ pub(crate) struct Widths {
 }
 
 impl Widths {
-    /// The column in which a row begins to say what its step does.
+    /// The column in which a row begins the words about what its step does.
     fn column_of_effects(self) -> usize {
         let column = self
             .step
@@ -44,24 +44,24 @@ impl Widths {
     }
 }
 
-/// Rows that are being written. If memory runs out the rest is left out, and `hand_to` says so.
+/// Rows that are being written. If memory runs out, the rest is left out, and `hand_to` returns an error.
 pub(crate) struct Rows {
     widths: Widths,
-    /// Whole rows that haven't gone out.
+    /// Whole rows that haven't been handed to the sink.
     whole: String,
     /// The row that is being written.
     row: String,
     /// The lines of the row that ended last.
     lines: String,
-    /// Whether that row is to be shown.
+    /// Whether the row that is being written is to be shown.
     is_shown: bool,
-    /// How long the row is without what it says that its step does; `None` as long as it says nothing of that.
+    /// The length of the row before the words about what its step does; `None` as long as the row has no such words.
     effects: Option<usize>,
     is_cut: bool,
 }
 
-/// Written by hand, so that a proof about a function that drops such a value has a single call there, and only this function goes over
-/// the fields.
+/// This `drop` is written by hand, so that dropping a `Rows` is a single call in a proof. Only the proof of `drop` itself goes over the
+/// fields.
 impl Drop for Rows {
     fn drop(self) {
         let Rows {
@@ -77,7 +77,7 @@ impl Drop for Rows {
 }
 
 impl Rows {
-    /// No row yet.
+    /// Begins without rows.
     pub(crate) fn new(alloc: Global, widths: Widths) -> Rows {
         Rows {
             widths,
@@ -90,7 +90,7 @@ impl Rows {
         }
     }
 
-    /// Whether the rows should go out: because they are long enough, or because memory ran out.
+    /// Whether the rows should be handed to the sink, because they are long enough or because memory ran out.
     pub(crate) fn is_long(&self) -> bool {
         self.is_cut || self.whole.len() >= MOST_KEPT
     }
@@ -106,14 +106,14 @@ impl Rows {
         }
     }
 
-    /// Begins a row, which is shown or not.
+    /// Begins a row; `is_shown` says whether the row will be shown.
     pub(crate) fn begin(&mut self, is_shown: bool) {
         self.row.clear();
         self.is_shown = is_shown;
         self.effects = None;
     }
 
-    /// Ends the row. What it says of its step goes on in further lines, if it doesn't fit in one.
+    /// Ends the row. If the words about what its step does don't fit in one line, they continue in further lines.
     pub(crate) fn end(&mut self) {
         if !self.is_shown || self.is_cut {
             return;
@@ -126,7 +126,7 @@ impl Rows {
         self.is_shown = false;
     }
 
-    /// Writes a text as it is.
+    /// Writes a text unchanged.
     pub(crate) fn text(&mut self, text: &str) {
         if self.is_shown && !self.is_cut {
             self.is_cut = self.row.push_str(text).is_err();
@@ -143,14 +143,14 @@ impl Rows {
         }
     }
 
-    /// Writes a place as the name of a panic has it: 8 hexadecimal digits.
+    /// Writes a place as 8 hexadecimal digits, as in the name of a panic.
     pub(crate) fn place(&mut self, place: u32) {
         if self.is_shown && !self.is_cut {
             self.is_cut = write!(self.row, "{place:08x}").is_err();
         }
     }
 
-    /// Writes the columns of a step and of a line: their numbers, or words instead of numbers.
+    /// Writes the columns of the step and of the line: the numbers of the step and the line, or words instead of numbers.
     pub(crate) fn head<T: Display + Drop>(&mut self, step: T, line: T) {
         let Widths {
             step: wide,
@@ -162,13 +162,13 @@ impl Rows {
         }
     }
 
-    /// Indents what is written next, by how many bodies run.
+    /// Indents the text that is written next. The indentation grows with the number of bodies that run.
     pub(crate) fn indent(&mut self, depth: u32) {
         let levels = depth.saturating_sub(1).min(MOST_INDENTS) as usize;
         self.blanks(levels.saturating_mul(INDENT));
     }
 
-    /// Writes a line of the script without the blanks around it; of a long line only its beginning.
+    /// Writes a line of the script without the blanks around it. Only the beginning of a long line is written.
     pub(crate) fn statement(&mut self, line: &str) {
         let line = line.trim();
         let room = MOST_COLUMNS.saturating_sub(self.row.len());
@@ -188,7 +188,7 @@ impl Rows {
         }
     }
 
-    /// Begins one thing that the row says of its step: in the column for that, or after what the row already says there.
+    /// Begins one item of what the row's step does. The first item goes into its own column, and each later item after the item before it.
     pub(crate) fn effect(&mut self) {
         match self.effects {
             Some(_) => self.text("; "),
@@ -196,7 +196,7 @@ impl Rows {
         }
     }
 
-    /// Writes a text as one thing that the step does.
+    /// Writes a text as one item of what the row's step does.
     pub(crate) fn effect_text(&mut self, text: &str) {
         self.effect();
         self.text(text);
@@ -219,8 +219,8 @@ impl Rows {
     }
 }
 
-/// Writes a row. What its step does is what comes after the first `length` bytes. It is written in its column, broken between words; or behind
-/// a long statement, if it fits there as a whole.
+/// Writes a row. The words after its first `length` bytes say what the row's step does. These words go into their own column, in further
+/// lines if one line isn't enough. But after a long statement, these words follow at once if all of them fit in the line.
 fn put_row(lines: &mut String, row: &str, length: usize, column: usize) -> Result<(), AllocError> {
     let (head, effects) = row.split_at_checked(length).unwrap_or((row, ""));
     let behind = head.len().saturating_add(2);
@@ -238,8 +238,8 @@ fn put_row(lines: &mut String, row: &str, length: usize, column: usize) -> Resul
     lines.push_str("\n")
 }
 
-/// Writes a word of what a step does behind `at` columns, or in the next line if it doesn't fit there. Returns how many columns the line has
-/// then.
+/// Writes a word about what a step does, after the first `at` columns, or in the next line if the word doesn't fit there. Returns how many
+/// columns the line has afterwards.
 fn put_word(
     whole: &mut String,
     word: &str,

@@ -1,4 +1,4 @@
-//! What a statement did: the cell that it got, freed or changed, the value that it gave, and the items that it pushed or popped.
+//! What a statement did: which cell it got, freed or changed, which value it had, and which items it pushed or popped.
 
 use crate::before::{Before, Value};
 use crate::open::Open;
@@ -8,7 +8,7 @@ use wb_history::{Ahead, live_at};
 use wb_machine::Machine;
 use wb_tree::script::Statement;
 
-/// Says what became of an attempt. `before` is the cell that it was to make longer; `None` if it was for a new cell.
+/// Says what became of an attempt. `before` is the cell that the attempt was to make longer; `None` if the attempt was for a new cell.
 pub(crate) fn put_attempt(
     rows: &mut Rows,
     machine: &Machine<'_>,
@@ -26,7 +26,7 @@ pub(crate) fn put_attempt(
     put_bytes(rows, attempt.length, attempt.place);
 }
 
-/// Says which cell an attempt was granted: a new one, one that moved, or one that is longer at its place.
+/// Says which cell an attempt was granted: a new cell, a cell that moved, or a cell that became longer at its place.
 fn put_granted(
     rows: &mut Rows,
     machine: &Machine<'_>,
@@ -56,7 +56,7 @@ fn put_granted(
     }
 }
 
-/// Says that the cell of the cleanup stack is longer, and where it was before if it moved.
+/// Says that the cell of the cleanup stack is longer. If the cell moved, also says its old place.
 fn put_stack(rows: &mut Rows, place: u32, before: u32) {
     if place == before {
         rows.text(" makes the cleanup stack longer: ");
@@ -67,7 +67,7 @@ fn put_stack(rows: &mut Rows, place: u32, before: u32) {
     }
 }
 
-/// Names a cell by the attempt that made it or moved it last.
+/// Names a cell by the number of the attempt that made the cell or moved it last.
 fn put_name(rows: &mut Rows, number: u32) {
     rows.text("cell ");
     rows.number(number);
@@ -87,7 +87,7 @@ pub(crate) fn put_freed(rows: &mut Rows, cell: Header) {
     put_bytes(rows, cell.length, cell.place);
 }
 
-/// Says what becomes of the cell that is freed by a pointer; the pointer may be null.
+/// Says what becomes of the cell that a pointer frees. The pointer may be null.
 pub(crate) fn put_free(rows: &mut Rows, pointer: Ptr, cell: Option<Header>) {
     match cell {
         Some(cell) => put_freed(rows, cell),
@@ -107,7 +107,7 @@ pub(crate) fn put_pointer(rows: &mut Rows, pointer: Ptr) {
     }
 }
 
-/// Says what a statement did that hasn't panicked. What a leave does, and what is destroyed because of it, is said elsewhere.
+/// Says what a statement did, if it hasn't panicked. `effects` says what a leave does, and which items are destroyed because of a leave.
 pub(crate) fn put_statement<'a>(
     rows: &mut Rows,
     machine: &Machine<'a>,
@@ -147,7 +147,7 @@ fn put_named(rows: &mut Rows, verb: &str, pointer: Ptr) {
     put_pointer(rows, pointer);
 }
 
-/// Says what became of a cell that was reallocated without an attempt.
+/// Says what became of a cell that a statement reallocated without an attempt.
 fn put_shorter(rows: &mut Rows, machine: &Machine<'_>, before: Option<Header>) {
     let Some(before) = before else {
         return;
@@ -166,7 +166,7 @@ fn put_shorter(rows: &mut Rows, machine: &Machine<'_>, before: Option<Header>) {
     put_bytes(rows, cell.length, cell.place);
 }
 
-/// Says what a statement's numbers or its condition came to.
+/// Says which value a statement's numbers or its condition had.
 fn put_value(rows: &mut Rows, statement: &Statement, value: Value) {
     match (statement, value) {
         (_, Value::None) => {}

@@ -14,7 +14,7 @@ use wb_history::ScriptLines;
 use wb_machine::{Machine, Turn};
 use wb_tree::script::Script;
 
-/// What is followed: a script's run, how it ends, and which of its steps are shown.
+/// The run that is followed: its script, how the run ends, and which of its steps are shown.
 #[derive(Clone, Copy)]
 pub(crate) struct Plan<'s> {
     pub(crate) lines: &'s ScriptLines<'s>,
@@ -24,15 +24,16 @@ pub(crate) struct Plan<'s> {
     pub(crate) budget: u32,
 }
 
-/// How many bodies ran where the last row began, and what its statement did as far as the next row depends on it.
+/// How many bodies ran when the last row began, and what the last row's statement did, as far as this matters for the next row.
 #[derive(Clone, Copy)]
 struct Last {
     depth: u32,
     did: Did,
 }
 
-/// Lets the machine take its turns, at most one for each step of the budget, besides the first turn and the one that ends the run, and
-/// writes a row for each turn. Returns `false` if the sink takes no more rows. The only error is that memory ran out.
+/// Lets the machine take its turns, and writes a row for each turn. The machine takes at most one turn for each step of the budget, and two
+/// more: the first turn, and the turn that ends the run. Returns `false` if the sink takes no more rows. The only error is that memory ran
+/// out.
 pub(crate) fn follow_turns<'a, O: RowSink>(
     machine: &mut Machine<'a>,
     open: &mut Open,
@@ -60,8 +61,8 @@ pub(crate) fn follow_turns<'a, O: RowSink>(
     Ok(true)
 }
 
-/// Ends the row of the previous turn, and writes the row of this turn except for its end: where the run goes on is known only after the
-/// next turn.
+/// Ends the row of the previous turn, and writes the row of this turn except for its end. The end of a row says in which body the run goes
+/// on, and only the next turn shows this.
 fn put_turn<'a>(
     rows: &mut Rows,
     machine: &Machine<'a>,
@@ -91,7 +92,8 @@ fn put_turn<'a>(
     }
 }
 
-/// Says where the run goes on after a row, if in another body: in one that is entered, or back in one that called.
+/// Says where the run goes on after a row, if the run goes on in another body. The other body is either a body that a call enters, or the
+/// caller to which a body returns.
 fn put_way(rows: &mut Rows, last: Last, next: Begun<'_>) {
     if gives_null(last.did, last.depth, next) {
         rows.effect_text("returns null");
@@ -105,7 +107,7 @@ fn put_way(rows: &mut Rows, last: Last, next: Begun<'_>) {
     }
 }
 
-/// Writes a row that stands for rows that aren't shown, if there are any.
+/// Writes a row that says how many steps are left out; nothing if `steps` is 0.
 fn put_left_out(rows: &mut Rows, steps: u32) {
     if steps == 0 {
         return;
@@ -121,7 +123,7 @@ fn put_left_out(rows: &mut Rows, steps: u32) {
     rows.end();
 }
 
-/// Writes the number of a step, and what the step begins.
+/// Writes the number of a step, its line, and what the step begins.
 fn put_begun(rows: &mut Rows, begun: Begun<'_>, step: u32, plan: Plan<'_>) {
     if let What::Run = begun.what {
         rows.head("0", "");
@@ -145,7 +147,7 @@ fn put_begun(rows: &mut Rows, begun: Begun<'_>, step: u32, plan: Plan<'_>) {
     }
 }
 
-/// Names an item by the line that pushed it, and its operation if it has one.
+/// Names an item by the line that pushed it, and by its operation if it has an operation.
 fn put_item(rows: &mut Rows, newest: ItemAt, plan: Plan<'_>) {
     rows.text("(item of line ");
     rows.number(newest.line);

@@ -1,4 +1,4 @@
-//! Which steps of a run are shown: the first and the last, or those around an attempt.
+//! Which steps of a run are shown: its first and last steps, or the steps around an attempt.
 
 ghost use Rattle.std.specs.Prelude.{◌≤◌, IsTrue};
 ghost use Rattle.wb_tree.specs.Sound.{is_script};
@@ -10,17 +10,18 @@ use wb_history::{RunParameters, machine_of};
 use wb_machine::Turn;
 use wb_tree::script::Script;
 
-/// Which steps are asked for.
+/// Which steps of a run the user asks for.
 #[derive(Clone, Copy)]
 pub struct Asked {
-    /// How many of the first steps and of the last; or how many before the attempt's, and how many after it.
+    /// How many of the first steps are shown, and as many of the last steps. If the user asks for an attempt, how many steps before the
+    /// attempt's step are shown, and as many after it.
     pub steps: u32,
-    /// The number of an attempt; `None` if the first steps and the last are asked for.
+    /// The number of an attempt; `None` if the user asks for the first and the last steps.
     pub around: Option<u32>,
 }
 
-/// The steps that are shown: those up to a number, and those from another one on; or those between two numbers, both included, of a run of
-/// so many steps.
+/// The steps that are shown. `Ends` shows the steps up to `first` and the steps from `last` on. `Between` shows the steps from `first` to
+/// `last`, both included, in a run of `steps` steps.
 #[derive(Clone, Copy)]
 pub(crate) enum Window {
     Ends { first: u32, last: u32 },
@@ -28,7 +29,7 @@ pub(crate) enum Window {
 }
 
 impl Window {
-    /// The first steps and the last of a run, so many of each.
+    /// The first `most` steps and the last `most` steps of a run.
     fn of_ends(most: u32, steps: u32) -> Window {
         Window::Ends {
             first: most,
@@ -36,7 +37,8 @@ impl Window {
         }
     }
 
-    /// So many steps before a step, that step, and as many after it. The first row alone isn't left out.
+    /// This step, the `most` steps before it, and the `most` steps after it. The first row of the run is shown too, if it would be the only
+    /// row left out before these steps.
     fn about(step: u32, most: u32, steps: u32) -> Window {
         let first = step.saturating_sub(most);
         Window::Between {
@@ -54,7 +56,7 @@ impl Window {
         }
     }
 
-    /// How many steps are left out from this step on; 0 if it is shown, or if others before it are left out too.
+    /// How many steps are left out from this step on. The number is 0 if this step is shown, or if the step before it is left out too.
     pub(crate) fn left_out(self, step: u32) -> u32 {
         match self {
             Window::Ends { first, last } if step == first.saturating_add(1) => {
@@ -69,8 +71,8 @@ impl Window {
     }
 }
 
-/// Returns which steps of a run of `steps` steps are shown; `None` if the attempt that is asked for isn't made. The only error is that memory
-/// ran out.
+/// Returns which steps of a run of `steps` steps are shown; `None` if the run doesn't make the attempt that the user asks for. The only
+/// error is that memory ran out.
 pub(crate) fn window_of(
     alloc: Global,
     script: &Script,
@@ -91,7 +93,8 @@ pub(crate) fn window_of(
     }
 }
 
-/// Returns the step that makes an attempt, 0 for the first attempt; `None` if the run doesn't make it. The only error is that memory ran out.
+/// Returns the step that makes an attempt; step 0 makes the first attempt. Returns `None` if the run doesn't make the attempt. The only
+/// error is that memory ran out.
 fn step_of_attempt(
     alloc: Global,
     script: &Script,

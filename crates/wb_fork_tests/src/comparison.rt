@@ -1,4 +1,4 @@
-//! What the comparisons of a script's run find.
+//! All comparisons for a script's run, and what they find.
 
 ghost use Rattle.std.specs.Prelude.{IsTrue};
 ghost use Rattle.wb_tree.specs.Sound.{is_script};
@@ -14,24 +14,26 @@ use wb_runs::failures::{Failing, Failures};
 use wb_script::read;
 use wb_tree::script::Script;
 
-/// What was found.
+/// What the comparisons found.
 #[derive(Clone, Copy, Debug, PartialEq, Eq)]
 pub(crate) enum Comparison {
-    /// Each fork has the result of its run: `forks` forks under numbers, `forks` under rates, `forks` in which all attempts from one on
-    /// fail, and `pairs` under pairs. Each of `forks` copies is apart from its source. `met` is how many forks under numbers met the run
-    /// without failure and went on like it, in a heap where cells may stay and in a moving heap together.
+    /// Each fork has the same result as its whole run, the run that is made from its beginning with the same failure. In `forks` forks one
+    /// attempt fails, `forks` forks have a rate, in `forks` forks all attempts from one on fail, and in `pairs` forks two attempts fail.
+    /// Each of `forks` copies is independent of its source. `met` is how many forks in which one attempt fails met the run without failure,
+    /// and then went on like it. Forks in a heap where cells may stay and forks in a moving heap are counted together.
     Same { forks: u32, pairs: u32, met: u32 },
-    /// The fork under this failure has another result than its run.
+    /// The result of the fork with this failure differs from the result of its whole run.
     OtherFork(Failing),
-    /// The run from which the forks were taken has another result than without them.
+    /// The result of the run from which the forks were taken differs from the result of the run without forks.
     OtherRun,
-    /// The fork in which this attempt fails met the run without failure, and then went on in another way.
+    /// The fork in which this attempt fails met the run without failure, but the two didn't go on alike.
     OtherMeeting(u32),
-    /// A copy that was taken before the attempt with this number differs from its source, or a change to one of them changed the other.
+    /// A copy that was taken before the attempt with this number differs from its source, or a change to the copy or the source changed the
+    /// other.
     OtherCopy(u32),
 }
 
-/// What is found for the script that the bytes spell; `None` if they spell no script, or if memory runs out.
+/// Returns what the comparisons find for the script with these bytes; `None` if the bytes are no script, or if memory runs out.
 pub(crate) fn compare(alloc: Global, bytes: &[u8]) -> Option<Comparison> {
     match read(alloc, bytes) {
         Ok(script) => compare_script(alloc, &script).ok(),
@@ -48,7 +50,7 @@ fn compare_script(alloc: Global, script: &Script) -> Result<Comparison, RunFault
     }
 }
 
-/// Compares all forks with their runs, and then the forks that meet the run without failure with that run.
+/// Compares all forks with their whole runs. Then compares each fork that meets the run without failure with the run that it met.
 fn compare_met_forks(alloc: Global, script: &Script) -> Result<Comparison, RunFault>
     requires { IsTrue (is_script script.now) }
 {
@@ -58,7 +60,8 @@ fn compare_met_forks(alloc: Global, script: &Script) -> Result<Comparison, RunFa
     }
 }
 
-/// Compares the forks that meet the run without failure with that run, in a heap where cells may stay and in a moving heap.
+/// Compares each fork that meets the run without failure with the run that it met, both in a heap where cells may stay and in a moving
+/// heap.
 fn compare_all_meetings(
     alloc: Global,
     script: &Script,
@@ -76,7 +79,7 @@ fn compare_all_meetings(
     }
 }
 
-/// What was found, with `more` further forks that met the run without failure.
+/// Adds `more` to the number of forks that met the run without failure.
 fn with_met(found: Comparison, more: u32) -> Comparison {
     match found {
         Comparison::Same { forks, pairs, met } => Comparison::Same {
@@ -88,7 +91,8 @@ fn with_met(found: Comparison, more: u32) -> Comparison {
     }
 }
 
-/// Compares the forks under numbers, under rates, in which all attempts from one on fail, and then those under pairs, with their runs.
+/// Compares forks with their whole runs. In these forks, one attempt fails, the attempts at a rate fail, all attempts from one on fail, or
+/// two attempts fail.
 fn compare_all_forks(alloc: Global, script: &Script) -> Result<Comparison, RunFault>
     requires { IsTrue (is_script script.now) }
 {
@@ -98,7 +102,8 @@ fn compare_all_forks(alloc: Global, script: &Script) -> Result<Comparison, RunFa
     }
 }
 
-/// Compares the forks under numbers, under rates, and then those in which all attempts from one on fail, with their runs.
+/// Compares forks with their whole runs: forks in which one attempt fails, forks with a rate, and forks in which all attempts from one on
+/// fail.
 fn compare_numbered_forks(alloc: Global, script: &Script) -> Result<Comparison, RunFault>
     requires { IsTrue (is_script script.now) }
 {
@@ -108,7 +113,7 @@ fn compare_numbered_forks(alloc: Global, script: &Script) -> Result<Comparison, 
     }
 }
 
-/// Compares the forks under numbers, and then those under rates, with their runs.
+/// Compares forks with their whole runs: first the forks in which one attempt fails, then the forks with a rate.
 fn compare_single_forks(alloc: Global, script: &Script) -> Result<Comparison, RunFault>
     requires { IsTrue (is_script script.now) }
 {

@@ -1,4 +1,4 @@
-//! A copy of a run under way, and its source: each stays as it is while the other goes on to its end.
+//! Compares a copy of a run under way with its source: each must stay unchanged while the other goes on to its end.
 
 ghost use Rattle.std.specs.Prelude.{IsTrue};
 ghost use Rattle.wb_tree.specs.Sound.{is_script};
@@ -11,7 +11,7 @@ use wb_heap_model::heap::Rule;
 use wb_machine::{Machine, RunFault, Turn};
 use wb_tree::script::Script;
 
-/// Where a run is, as far as its machine shows it.
+/// How far a run has come, as far as its machine shows.
 #[derive(Clone, Copy, Debug, PartialEq, Eq)]
 struct Place {
     attempts: u32,
@@ -21,7 +21,7 @@ struct Place {
     asks: bool,
 }
 
-/// Which of a copy and its source goes on to its end while the other waits.
+/// Which of the two, a copy or its source, goes on to its end first while the other waits.
 #[derive(Clone, Copy, Debug, PartialEq, Eq)]
 enum First {
     Source,
@@ -31,9 +31,8 @@ enum First {
 /// The rule of a run without failure.
 const NONE: Rule = Rule::Number(0);
 
-/// Copies a script's run without failure before each of its attempts, of which there are `forks`, and says whether each copy and its source
-/// are apart, whichever of the two ends first. `pairs` is how many forks under pairs were compared before, and `met` how many forks met the
-/// run.
+/// Copies a script's run without failure before each of the run's `forks` attempts. Finds out whether each copy and its source are
+/// independent, whichever of the two ends first. `pairs` and `met` are results of earlier comparisons, and are only passed on.
 pub(crate) fn compare_copies(
     alloc: Global,
     script: &Script,
@@ -51,7 +50,7 @@ pub(crate) fn compare_copies(
     Ok(Comparison::Same { forks, pairs, met })
 }
 
-/// Whether a copy and its source are apart, if the copy is taken when `made` attempts are made and the next turn makes another.
+/// Whether a copy and its source are independent. The copy is taken after `made` attempts, before a turn that makes another attempt.
 fn are_apart(alloc: Global, script: &Script, made: u32) -> Result<bool, RunFault>
     requires { IsTrue (is_script script.now) }
 {
@@ -61,7 +60,8 @@ fn are_apart(alloc: Global, script: &Script, made: u32) -> Result<bool, RunFault
     )
 }
 
-/// Whether one of the two stays as it is while the other goes on to its end, and each has the result of the whole run.
+/// Whether a copy and its source are independent if `first` goes on to its end first. The other must stay unchanged meanwhile, and both
+/// must have the result of the whole run.
 fn one_waits(alloc: Global, script: &Script, made: u32, first: First) -> Result<bool, RunFault>
     requires { IsTrue (is_script script.now) }
 {
@@ -71,8 +71,9 @@ fn one_waits(alloc: Global, script: &Script, made: u32, first: First) -> Result<
     Ok(is_source_as_run && is_copy_apart?)
 }
 
-/// Copies a run once `made` attempts are made, lets `first` go on to its end, and then the copy. Returns whether the other one stayed as it
-/// was, and the copy has the result of the whole run. The caller lets the source go on to its end.
+/// Copies a run after `made` attempts. Lets `first` go on to its end, and then the copy, if the copy hasn't ended. Returns whether two
+/// things hold: the machine that waited stayed unchanged, and the copy has the result of the whole run. The caller lets the source go on to
+/// its end.
 fn is_copy_apart(
     alloc: Global,
     script: &Script,
@@ -89,7 +90,8 @@ fn is_copy_apart(
     Ok(is_copy_as_run && stays?)
 }
 
-/// Goes on until `made` attempts are made and the next turn makes one more, or to the end of a run that makes no more.
+/// Takes turns until `made` attempts are made and the next turn makes another attempt. If the run makes no other attempt, takes turns to
+/// the run's end.
 fn go_to_attempt(source: &mut Machine, made: u32) -> Result<(), NoMemory> {
     for _ in 0..MOST_TURNS {
         if source.attempts() == made && source.will_attempt() {
@@ -107,7 +109,7 @@ fn one_stays(first: First, source: &mut Machine, copy: &mut Machine) -> Result<b
     }
 }
 
-/// Whether two machines are equally far, and `waiting` is still there when `going` has come to its end.
+/// Whether two machines have come equally far, and `waiting` stays unchanged while `going` goes on to its end.
 fn stays(waiting: &Machine, going: &mut Machine) -> Result<bool, NoMemory> {
     let place = place_of(waiting);
     let is_same = place == place_of(going);

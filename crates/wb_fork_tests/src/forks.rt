@@ -1,4 +1,4 @@
-//! Forks of a run, each beside the whole run that it stands for.
+//! Compares each fork of a run with the whole run that must have the same result.
 
 ghost use Rattle.std.specs.Prelude.{◌≡◌, ◌+◌, false, IsTrue};
 ghost use Rattle.wb_tree.specs.Sound.{is_script};
@@ -12,8 +12,8 @@ use wb_runs::failures::Failures;
 use wb_sweep::result_under;
 use wb_tree::script::Script;
 
-/// Compares the forks of a script's run without failure, one under each of these failures, with the whole runs that they stand for; and
-/// then the run from which the forks were taken with a whole run without failure.
+/// Takes forks of a script's run without failure, one for each failure of this kind, and compares each fork with the whole run with the
+/// same failure. Then compares the run from which the forks were taken with a whole run without failure.
 pub(crate) fn compare_forks(
     alloc: Global,
     script: &Script,
@@ -31,8 +31,8 @@ pub(crate) fn compare_forks(
     }
 }
 
-/// Takes the turns of the run, and compares a fork before each turn that makes an attempt, until a fork has another result than its run.
-/// Each fork takes the memory of the fork before.
+/// Takes the turns of a run. Before each turn that makes an attempt, takes a fork and compares it with its whole run. Stops at the first
+/// fork whose result differs. Each fork takes over the memory of the fork before.
 fn walk(
     alloc: Global,
     script: &Script,
@@ -66,8 +66,8 @@ fn walk(
     })
 }
 
-/// Whether the fork in which the next attempt, attempt `number`, is the first to fail has the same result as the whole run under the same
-/// failure.
+/// Whether a fork has the same result as the whole run with the same failure. In the fork, the next attempt, attempt `number`, is the first
+/// to fail.
 fn is_fork_as_run(
     alloc: Global,
     script: &Script,

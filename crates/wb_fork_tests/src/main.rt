@@ -1,11 +1,12 @@
-//! Compares the forks of a script's run with the runs that they stand for, and copies of that run with their source.
+//! Compares forks of a script's run with the whole runs that must have the same results, and copies of the run with their source.
 //!
-//! A fork is a copy of the run that goes on under another rule, so that an attempt fails which the run itself is granted: only that
-//! attempt, or that attempt and every later one whose number is a multiple of its own, or that attempt and all later ones. From a fork in
-//! which one attempt has failed, further forks are taken, in each of which a later attempt fails as well. A fork in which one attempt has
-//! failed may meet the run without failure; from there on it must go on as that run does, except for allocation numbers. The program reads
-//! the script from standard input, and says how many forks there are. If a fork or a copy has another result than it should, the program
-//! says which, and ends with status 1.
+//! A fork is a copy of a run, and goes on under another rule. This rule makes an attempt fail that is granted in the run itself. There are
+//! three kinds of such forks. In the first kind, only one attempt fails. In the second kind, one attempt fails, and so does every later
+//! attempt whose number is a multiple of the first one's number. In the third kind, one attempt and all later attempts fail. From a fork in
+//! which one attempt has failed, further forks are taken, in each of which one later attempt fails as well. A fork in which one attempt has
+//! failed may meet the run without failure; then the two are in the same state. After meeting, the fork must go on like the run without
+//! failure, except for allocation numbers. The program reads the script from standard input, and prints how many forks there are. If a fork
+//! or a copy has a wrong result, the program says which, and ends with status 1.
 #![tactic(auto)]
 
 mod comparison;
@@ -25,7 +26,7 @@ fn main(rt: HostRuntime) -> ExitCode {
     say(&rt).unwrap_or(ExitCode::FAILURE)
 }
 
-/// Prints what was found, and returns the status.
+/// Prints what the comparisons found, and returns the exit status.
 fn say(rt: &HostRuntime) -> io::Result<ExitCode> {
     match compare_input(rt)? {
         Some(Comparison::Same { forks, pairs, met }) => {
@@ -63,7 +64,7 @@ fn say(rt: &HostRuntime) -> io::Result<ExitCode> {
     Ok(ExitCode::FAILURE)
 }
 
-/// What was found for the script on standard input, or `None` if there is no script or memory ran out.
+/// Returns what the comparisons found for the script on standard input; `None` if the input is no script, or if memory ran out.
 fn compare_input(rt: &HostRuntime) -> io::Result<Option<Comparison>> {
     let mut bytes = Vec::new(rt.alloc());
     rt.stdin().read_to_end(&mut bytes)?;

@@ -1,5 +1,5 @@
-//! Forks in which one attempt fails, and which then meet the run without failure: they come to the same state, except for allocation
-//! numbers. From there on, each is compared with that run.
+//! Compares each fork that meets the run without failure with this run. In each fork, one attempt fails. A fork and the run meet when they
+//! are in the same state, except for allocation numbers.
 
 ghost use Rattle.std.specs.Prelude.{◌≡◌, ◌≤◌, false, IsTrue};
 ghost use Rattle.wb_tree.specs.Sound.{is_script};
@@ -15,12 +15,12 @@ use wb_machine::{Machine, RunFault, Turn};
 use wb_meaning::run::RunResult;
 use wb_tree::script::Script;
 
-/// How many attempts a fork may make after its failed one before it is given up, and how many attempts the run without failure may be
-/// ahead.
+/// How many attempts a fork may make after its failed attempt before the search for a meeting is given up. The run without failure may be
+/// ahead by at most this many attempts.
 const MOST_AFTER: u32 = 8;
 
-/// Compares the forks under single numbers that meet the run without failure with that run, in a heap of `shape`, and counts them. `forks`
-/// and `pairs` are how many forks under numbers and under pairs were compared before.
+/// Takes forks in which one attempt fails, in a heap of this shape. Compares each fork that meets the run without failure with this run,
+/// and counts the forks that meet it. `forks` and `pairs` are results of earlier comparisons, and are only passed on.
 pub(crate) fn compare_meetings(
     alloc: Global,
     script: &Script,
@@ -45,8 +45,8 @@ pub(crate) fn compare_meetings(
     Ok(Comparison::Same { forks, pairs, met })
 }
 
-/// Whether the fork in which the next attempt fails goes on like the run without failure from where the two meet. `None` if the next turn
-/// makes no attempt, or if the two don't meet soon.
+/// Whether the fork in which the next attempt fails goes on like the run without failure after the two meet. The result is `None` if the
+/// next turn makes no attempt, or if the two don't meet soon.
 fn meets_as_run(lead: &Machine) -> Result<Option<bool>, NoMemory>
     requires rule { lead.now.rule ≡ rules.Number 0 }
     requires few { lead.now.attempts ≤ MOST_TURNS }
@@ -59,7 +59,7 @@ fn meets_as_run(lead: &Machine) -> Result<Option<bool>, NoMemory>
     meets_along(lead, &mut ahead)
 }
 
-/// Does what `meets_as_run` does, with a copy of the run without failure that goes ahead, attempt by attempt.
+/// Does what `meets_as_run` does. `ahead` is a copy of the run without failure, which goes ahead attempt by attempt.
 fn meets_along(lead: &Machine, ahead: &mut Machine) -> Result<Option<bool>, NoMemory>
     requires script { ahead.old.script ≡ lead.now.script }
     requires rule { lead.now.rule ≡ rules.Number 0 }
@@ -78,7 +78,7 @@ fn meets_along(lead: &Machine, ahead: &mut Machine) -> Result<Option<bool>, NoMe
     Ok(None)
 }
 
-/// Does what `meets_along` does, with `ahead` where it is now.
+/// Does what `meets_along` does, but only for the state in which `ahead` is now.
 fn next_meets(lead: &Machine, ahead: &Machine) -> Result<Option<bool>, NoMemory>
     requires script { ahead.now.script ≡ lead.now.script }
     requires rule { lead.now.rule ≡ rules.Number 0 }
@@ -93,7 +93,7 @@ fn next_meets(lead: &Machine, ahead: &Machine) -> Result<Option<bool>, NoMemory>
     meets_then_alike(&mut fork, ahead, number)
 }
 
-/// Whether a fork goes on like another run from where the two meet. `None` if the two don't meet soon.
+/// Whether a fork goes on like another run after the two meet. The result is `None` if the two don't meet soon.
 fn meets_then_alike(
     fork: &mut Machine,
     ahead: &Machine,
@@ -107,7 +107,8 @@ fn meets_then_alike(
     Ok(Some(go_on_alike(fork, ahead)?))
 }
 
-/// Takes turns until one more attempt has been made and the next turn makes another, or to the end of the run.
+/// Takes turns until one more attempt has been made and the next turn makes another attempt. If the run makes no further attempt, takes
+/// turns to the run's end.
 fn go_to_next_attempt(ahead: &mut Machine) -> Result<(), NoMemory>
     ensures { IsSameRun ahead.old ahead.new }
 {
@@ -123,7 +124,7 @@ fn go_to_next_attempt(ahead: &mut Machine) -> Result<(), NoMemory>
     Ok(())
 }
 
-/// Whether a fork in which attempt `number` fails is, within a few attempts, in the state of another run.
+/// Lets a fork in which attempt `number` fails go on for a few attempts. Returns whether the fork comes to the state in which `ahead` is.
 fn meets(fork: &mut Machine, ahead: &Machine, number: u32) -> Result<bool, NoMemory>
     requires script { ahead.now.script ≡ fork.old.script }
 {
@@ -142,7 +143,7 @@ fn meets(fork: &mut Machine, ahead: &Machine, number: u32) -> Result<bool, NoMem
     Ok(false)
 }
 
-/// Whether two runs go on alike from where they are, except for allocation numbers.
+/// Whether two runs go on in the same way from their present states, except for allocation numbers.
 fn go_on_alike(fork: &Machine, ahead: &Machine) -> Result<bool, NoMemory> {
     let here = Reached {
         attempts: fork.attempts(),
@@ -157,7 +158,7 @@ fn go_on_alike(fork: &Machine, ahead: &Machine) -> Result<bool, NoMemory> {
     Ok(is_same_from(&one, here, &other, there))
 }
 
-/// The result of a run under way, which itself stays as it is.
+/// The result that a run under way will have. The run itself stays unchanged.
 fn end_of(machine: &Machine) -> Result<RunResult, NoMemory> {
     machine.try_copy()?.run_to_end()
 }

@@ -1,5 +1,5 @@
-//! Forks of forks: each is a copy of a run in which one attempt has failed, and lets a later attempt fail too. Each is compared with the
-//! whole run in which both fail.
+//! Compares forks of forks with whole runs. Each fork is a copy of a run in which one attempt has failed, and makes a later attempt fail
+//! too. The whole run is the run in which both attempts fail.
 
 ghost use Rattle.std.specs.Prelude.{◌≡◌, ◌+◌, ◌≤◌, false, IsTrue};
 ghost use Rattle.wb_tree.specs.Sound.{is_script};
@@ -14,11 +14,11 @@ use wb_runs::failures::Failing;
 use wb_sweep::result_under;
 use wb_tree::script::Script;
 
-/// How many attempts after the first failed one are tried as the second of a pair, at most.
+/// The second attempt of a pair is one of at most this many attempts after the first failed attempt.
 const MOST_AFTER: u32 = 40;
 
-/// Compares the forks of a script's run under pairs with the whole runs that they stand for. `forks` is how many forks under numbers were
-/// compared before.
+/// Compares each fork in which two attempts of a script's run fail with the whole run that must have the same result. `forks` is the result
+/// of earlier comparisons, and is only passed on.
 pub(crate) fn compare_pairs(
     alloc: Global,
     script: &Script,
@@ -43,9 +43,10 @@ pub(crate) fn compare_pairs(
     })
 }
 
-/// Of the pairs whose first attempt is the one that the next turn makes, if it makes one: the first pair whose fork has another result than
-/// its run, or `None`. If the run in which that attempt alone fails has another result after forks were taken from it, the attempt's number
-/// is returned instead. Pairs that are compared are counted in `pairs`.
+/// Tries the pairs whose first attempt is the attempt that the next turn makes. Returns the first pair whose fork's result differs from the
+/// result of its whole run. Returns `None` if there is no such pair, or if the next turn makes no attempt. These forks are taken from a run
+/// in which only the first attempt has failed. If the result of this run is wrong, the number of this attempt is returned. `pairs` counts
+/// the pairs that are compared.
 fn other_with_next(
     alloc: Global,
     script: &Script,
@@ -74,8 +75,8 @@ fn other_with_next(
     }
 }
 
-/// Of the pairs with attempt `first`, which has failed in the run `fork`: the first pair whose fork has another result than its run, or
-/// `None`. Each fork takes the memory of the fork before.
+/// Tries the pairs whose first attempt is `first`, which has failed in the run `fork`. Returns the first of these pairs whose own fork has
+/// a result that differs from the result of its whole run; `None` if no result differs. Each fork takes over the memory of the fork before.
 fn other_after(
     alloc: Global,
     script: &Script,
@@ -108,7 +109,7 @@ fn other_after(
     Ok(None)
 }
 
-/// Whether the fork in which the next attempt, attempt `second`, fails too has the same result as the whole run in which both fail.
+/// Whether a fork in which the next attempt, attempt `second`, also fails has the same result as the whole run in which both attempts fail.
 fn is_pair_as_run(
     alloc: Global,
     script: &Script,

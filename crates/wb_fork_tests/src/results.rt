@@ -1,4 +1,4 @@
-//! Comparisons of the results of runs: all that a run reports is compared.
+//! Comparisons of the results of runs. These comparisons include everything that a run reports.
 
 ghost use Rattle.std.specs.Prelude.{IsTrue};
 ghost use Rattle.wb_tree.specs.Sound.{is_script};
@@ -18,14 +18,14 @@ pub(crate) const SHAPE: Shape = Shape {
     step: 4096,
     moving: false,
 };
-/// Like `SHAPE`, but each cell that grows moves.
+/// A shape like `SHAPE`, but each cell that grows moves.
 pub(crate) const MOVING: Shape = Shape {
     min: 4096,
     step: 4096,
     moving: true,
 };
 
-/// The most turns that a run can take: the first, one for each step of the budget, and one that cuts it.
+/// The most turns that a run can take: the first turn, one turn for each step of the budget, and one turn that cuts the run.
 pub(crate) const MOST_TURNS: u32 = BUDGET + 2;
 
 /// How far a run has come.
@@ -35,7 +35,7 @@ pub(crate) struct Reached {
     pub(crate) steps: u32,
 }
 
-/// Whether a run under way, of this script and under this rule, has the same result as the whole run.
+/// Whether a run under way, of this script and with this rule, will have the same result as the whole run.
 pub(crate) fn comes_to_run(
     alloc: Global,
     script: &Script,
@@ -48,7 +48,7 @@ pub(crate) fn comes_to_run(
     is_result(alloc, script, rule, &run_result)
 }
 
-/// Whether the whole run of a script under this rule has this result.
+/// Whether the whole run of a script with this rule has this result.
 pub(crate) fn is_result(
     alloc: Global,
     script: &Script,
@@ -61,7 +61,7 @@ pub(crate) fn is_result(
     Ok(is_same(&whole, run_result))
 }
 
-/// Whether two results are the same in all that runs report.
+/// Whether two results are equal in everything that runs report.
 fn is_same(one: &RunResult, other: &RunResult) -> bool {
     let RunResult {
         outcome,
@@ -93,9 +93,9 @@ fn is_same_outcome(one: &Outcome, other: &Outcome) -> bool {
     }
 }
 
-/// Whether two runs went on alike, one from `here` and the other from `there`, except for allocation numbers: they took equally many
-/// further steps and made equally many further attempts, and ended alike, with leaks of the same places and lengths. `true` if the budget
-/// cuts one of them.
+/// Whether two runs went on in the same way, one from `here` on and the other from `there` on, except for allocation numbers. The two runs
+/// must have taken equally many further steps, made equally many further attempts, and ended alike, with leaks of the same places and
+/// lengths. The result is `true` if the budget cuts one of the runs.
 pub(crate) fn is_same_from(
     one: &RunResult,
     here: Reached,
@@ -128,7 +128,7 @@ fn is_past_budget(outcome: &Outcome) -> bool {
     }
 }
 
-/// Whether two outcomes are the same except for the allocation numbers of leaks.
+/// Whether two outcomes are equal except for the allocation numbers of leaks.
 fn is_like_outcome(one: &Outcome, other: &Outcome) -> bool {
     match (one, other) {
         (

@@ -1,4 +1,4 @@
-//! The calls on texts in cells, and the edit of a buffer, which may read a text in a cell.
+//! The calls on texts in cells, and the call that edits a buffer. An edit of a buffer may read a text in a cell.
 
 ghost use Rattle.std.specs.Prelude.{◌≡◌, ◌+◌, ◌*◌, ◌^◌, ◌<◌, ◌≤◌, ◌++◌, [], length, take, None, IfOk, IfSome, IsOk};
 ghost use Rattle.std.specs.Prelude.{OnErr, OnOk};
@@ -24,11 +24,11 @@ use wb_debug::DebugHeap;
 use wb_heap_model::heap::{Gave, Kind, Panic, Ptr};
 use wb_text::Buf;
 
-/// Attempts to get a cell for an empty text that may have `n` units.
+/// Makes an attempt to get a cell for an empty text whose maximum length is at least `n` units.
 ///
-/// `Denied` and `Ceiling` are the heap's answers. `NoMemory` if the workbench itself runs out of memory; it leaves the heap as it was, and
-/// never comes in place of `Ceiling`. Source: Symbian OS v9 SDK reference, HBufC::New, and this project's profile for the length of the
-/// cell.
+/// Returns `Denied` and `Ceiling` in the same cases as the heap's `attempt_alloc`. Returns `NoMemory` if the workbench itself runs out of
+/// memory; the heap is then as it was. `NoMemory` never comes in place of `Ceiling`. Source: Symbian OS v9 SDK reference, HBufC::New; this
+/// project's profile for the length of the cell.
 pub fn make(heap: &mut DebugHeap, n: u32) -> Result<Gave, NoMemory>
     requires units { n ≤ MOST_UNITS }
     requires number { heap.old.attempts + 1 < 2 ^ 32 }
@@ -43,11 +43,12 @@ pub fn make(heap: &mut DebugHeap, n: u32) -> Result<Gave, NoMemory>
     heap.attempt_alloc(4 + 2 * n, Kind::Text)
 }
 
-/// Gives a text another maximum length: reallocates its cell for `n` units, and keeps the text, which may not be longer than that.
+/// Changes the maximum length of a text: reallocates the text's cell for `n` units, and keeps the text. The text may have at most `n`
+/// units.
 ///
-/// `Denied` and `Ceiling` are the heap's answers, and leave the cell as it was. `NoMemory` if the workbench itself runs out of memory; it
-/// leaves the heap as it was, and never comes if the cell gets no longer, nor in place of `Ceiling`. Source: Symbian OS v9 SDK
-/// reference, HBufC::ReAlloc, and this project's profile for the length of the cell.
+/// Returns `Denied` and `Ceiling` in the same cases as the heap's `attempt_realloc`; the cell is then as it was. Returns `NoMemory` if the
+/// workbench itself runs out of memory; the heap is then as it was. `NoMemory` comes only if the cell grows, and never in place of
+/// `Ceiling`. Source: Symbian OS v9 SDK reference, HBufC::ReAlloc; this project's profile for the length of the cell.
 pub fn remake(heap: &mut DebugHeap, ptr: Ptr, n: u32) -> Result<Gave, NoMemory>
     requires text { IsTextAt ptr heap.old }
     requires fits { length (text_at ptr heap.old) ≤ n }
@@ -77,8 +78,7 @@ pub fn length(heap: &DebugHeap, ptr: Ptr) -> u32
     heap.payload(ptr, 0)
 }
 
-/// How many units the text in a cell may have. Source: Symbian OS v9 SDK reference, HBufC::Des, and this project's
-/// profile for the number.
+/// How many units the text in a cell may have. Source: Symbian OS v9 SDK reference, HBufC::Des; this project's profile for the number.
 pub fn max_len(heap: &DebugHeap, ptr: Ptr) -> u32
     requires { IsTextAt ptr heap.now }
     ensures { result ≡ max_at ptr heap.now }
@@ -106,11 +106,11 @@ fn measure(heap: &DebugHeap, ptr: Ptr) -> Measured
     }
 }
 
-/// Changes the text in a cell by the units of a source, which are read as they were before the edit.
+/// Changes the text in a cell with the units of a source. The units are read as they were before the edit.
 ///
-/// `Panic::POSITION_OUT_OF_BOUNDS` if the position of an insertion is past the text's end, then `Panic::TOO_LONG` if the text would be
-/// longer than its maximum length; the heap is then as it was. Other cells never change. Source: Symbian OS v9 SDK reference, 16-bit
-/// descriptors.
+/// Returns `Panic::POSITION_OUT_OF_BOUNDS` if the position of an insertion is past the text's end; otherwise `Panic::TOO_LONG` if the text
+/// would be longer than its maximum length. After a panic the heap is as it was. Other cells never change. Source: Symbian OS v9 SDK
+/// reference, 16-bit descriptors.
 pub fn edit(heap: &mut DebugHeap, ptr: Ptr, change: Edit, source: Source) -> Result<(), Panic>
     requires text { IsTextAt ptr heap.old }
     requires source { IsSource heap.old source }
@@ -131,7 +131,7 @@ pub fn edit(heap: &mut DebugHeap, ptr: Ptr, change: Edit, source: Source) -> Res
     }
 }
 
-/// Replaces the text from a position on by the units of a source.
+/// Replaces all of the text from a position on by the units of a source.
 fn overwrite(heap: &mut DebugHeap, ptr: Ptr, at: u32, source: Source) -> Result<(), Panic>
     requires text { IsTextAt ptr heap.old }
     requires source { IsSource heap.old source }
@@ -184,10 +184,11 @@ fn insert(heap: &mut DebugHeap, ptr: Ptr, at: u32, source: Source) -> Result<(),
     Ok(())
 }
 
-/// Removes `count` units from the text in a cell, from a position on, or all units from there on if they are fewer.
+/// Removes `count` units from the text in a cell, from a position on. If the text has fewer than `count` units from the position on, the
+/// call removes all of these units.
 ///
-/// `Panic::POSITION_OUT_OF_BOUNDS` if the position is past the text's end; the heap is then as it was. Units past the new end are zero.
-/// Other cells never change. Source: Symbian OS v9 SDK reference, 16-bit descriptors.
+/// Returns `Panic::POSITION_OUT_OF_BOUNDS` if the position is past the text's end; the heap is then as it was. Units past the new end
+/// become zero. Other cells never change. Source: Symbian OS v9 SDK reference, 16-bit descriptors.
 pub fn delete(heap: &mut DebugHeap, ptr: Ptr, position: u32, count: u32) -> Result<(), Panic>
     requires { IsTextAt ptr heap.old }
     ensures answer { result ≡ answer_of (delete_text (text_at ptr heap.old) position count) }
@@ -214,10 +215,10 @@ pub fn delete(heap: &mut DebugHeap, ptr: Ptr, position: u32, count: u32) -> Resu
     Ok(())
 }
 
-/// Gives the text in a cell another length: units past the new length become zero, and a text that gets longer gains zeros.
+/// Sets the length of the text in a cell. Units past the new length become zero, and a text that gets longer gains zeros.
 ///
-/// `Panic::TOO_LONG` if the new length is above the maximum; the heap is then as it was. Other cells never change. Source: Symbian OS v9
-/// SDK reference, 16-bit descriptors.
+/// Returns `Panic::TOO_LONG` if the new length is above the maximum length; the heap is then as it was. Other cells never change. Source:
+/// Symbian OS v9 SDK reference, 16-bit descriptors.
 pub fn set_length(heap: &mut DebugHeap, ptr: Ptr, n: u32) -> Result<(), Panic>
     requires { IsTextAt ptr heap.old }
     ensures answer { result
@@ -236,11 +237,11 @@ pub fn set_length(heap: &mut DebugHeap, ptr: Ptr, n: u32) -> Result<(), Panic>
     Ok(())
 }
 
-/// Changes a buffer by the units of a source, which are read as they were before the edit. `heap` holds the source's cell, if the source is
-/// the text in a cell.
+/// Changes a buffer with the units of a source. The units are read as they were before the edit. If the source is a part of the text in a
+/// cell, this cell must be in `heap`.
 ///
-/// `Panic::POSITION_OUT_OF_BOUNDS` if the position of an insertion is past the text's end, then `Panic::TOO_LONG` if the text would be
-/// longer than its maximum length; the buffer is then as it was. Source: Symbian OS v9 SDK reference, 16-bit descriptors.
+/// Returns `Panic::POSITION_OUT_OF_BOUNDS` if the position of an insertion is past the text's end; otherwise `Panic::TOO_LONG` if the text
+/// would be longer than its maximum length. After a panic the buffer is as it was. Source: Symbian OS v9 SDK reference, 16-bit descriptors.
 pub fn edit_buf(heap: &DebugHeap, buf: &mut Buf, change: Edit, source: Source) -> Result<(), Panic>
     requires source { IsSource heap.now source }
     requires suits { SuitsEdit change source }
@@ -268,7 +269,7 @@ pub fn edit_buf(heap: &DebugHeap, buf: &mut Buf, change: Edit, source: Source) -
     }
 }
 
-/// Changes a buffer by a part of another text.
+/// Changes a buffer with a part of another text.
 fn edit_by(buf: &mut Buf, change: Edit, part: Part) -> Result<(), Panic>
     requires { IsReadableAlone part.heap.now part.source }
     ensures text { buf.new ≡ edited buf.old (edit_text change buf.old.max buf.old.units
@@ -283,7 +284,7 @@ fn edit_by(buf: &mut Buf, change: Edit, part: Part) -> Result<(), Panic>
     }
 }
 
-/// Returns what is printed for a unit: the unit itself if it is a printable ASCII character, and otherwise a dot.
+/// Returns the byte that is printed for a unit: the unit itself if it is a printable ASCII character; otherwise a dot.
 fn printed_unit(unit: u16) -> u8
     ensures { result ≡ printed_unit unit }
 {

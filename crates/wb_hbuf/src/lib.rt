@@ -1,7 +1,8 @@
 //! HBufC: texts in cells of the debug heap.
 //!
-//! The first word of a cell's payload is the text's length, in units. The text's units follow, two to a word, the one in the lower half
-//! first. The calls are in `hbuf`, what they read in `sources`, and how units are read and written in `reading` and `writing`.
+//! The first word of a cell's payload is the text's length, in units. The text's units follow, two in each word; the first of the two is in
+//! the lower half. The calls are in `hbuf`, and the sources that the calls read are in `sources`. Code that reads units is in `reading`,
+//! and code that writes units is in `writing`.
 #![tactic(auto)]
 
 pub mod hbuf;

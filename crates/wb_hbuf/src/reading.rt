@@ -1,4 +1,4 @@
-//! How the units of texts and sources are read, one by one and in parts.
+//! How the units of texts and sources are read, one at a time and many at a time.
 
 ghost use Rattle.std.specs.Prelude.{◌≡◌, ◌+◌, ◌<◌, ◌≤◌, ◌++◌, [], length, replicate, slice_index};
 ghost use Rattle.wb_hbuf.specs.Drafts.{HasUnits};
@@ -24,7 +24,7 @@ pub fn count(source: Source) -> u32
     }
 }
 
-/// Returns the unit at a position of the text in a cell; zero past the text's end.
+/// Returns the unit at a position of the text in a cell; zero if the position is past the text's end.
 pub fn text_unit(heap: &DebugHeap, ptr: Ptr, at: u32) -> u16
     requires { HasUnits ptr heap.now }
     ensures { result ≡ slice_index (text_at ptr heap.now) at }
@@ -64,7 +64,7 @@ pub fn foreign_unit(heap: &DebugHeap, source: Source, i: u32) -> u16
     }
 }
 
-/// A source other than the destination's own text, with the heap that holds its cell if it is the text in a cell.
+/// A source other than the destination's own text, with a heap. If the source is a part of the text in a cell, this cell is in the heap.
 #[derive(Clone, Copy)]
 pub struct Part<'h, 's> {
     pub heap: &'h DebugHeap,
@@ -109,7 +109,7 @@ fn append_each(to: &mut ArrayVec<u16, 256>, heap: &DebugHeap, source: Source)
     }
 }
 
-/// Appends `count` of these units, from `from` on, with zeros past their end.
+/// Appends `count` units of `units`, from index `from` on, with zeros past the end of `units`.
 fn append_part(to: &mut ArrayVec<u16, 256>, units: &[u16], from: u32, count: u32)
     requires { length to.old.items + count ≤ 256 }
     ensures items { to.new.items ≡ to.old.items ++ units_of_part units.now from count }
@@ -121,7 +121,7 @@ fn append_part(to: &mut ArrayVec<u16, 256>, units: &[u16], from: u32, count: u32
     push_zeros(to, count as usize - there);
 }
 
-/// Appends `count` bytes of a literal as units, from `from` on, with zeros past the literal's end.
+/// Appends `count` bytes of a literal as units, from index `from` on, with zeros past the literal's end.
 fn append_literal(to: &mut ArrayVec<u16, 256>, bytes: &[u8], from: u32, count: u32)
     requires { length to.old.items + count ≤ 256 }
     ensures items { to.new.items ≡ to.old.items ++ units_of_part bytes.now from count }

@@ -1,22 +1,22 @@
-//! How an edit changes a text, and what it reads.
+//! The ways in which an edit changes a text, and the sources that an edit reads.
 
 use wb_basics::items::Chars;
 use wb_heap_model::heap::Ptr;
 use wb_text::Buf;
 
-/// How the units of a source change a text.
+/// A way in which the units of a source change a text.
 #[derive(Clone, Copy, Debug, PartialEq, Eq)]
 pub enum Edit {
     /// The units replace the text.
     Copy,
     /// The units go after the text.
     Append,
-    /// The units go in front of the text's unit at this position.
+    /// The units go before the text's unit at this position.
     Insert(u32),
 }
 
-/// What an edit reads: a part of a text. The two numbers are the position of the part's first unit and how many units the part has. Units
-/// past the text's end are zero.
+/// What an edit reads: a part of a text. The first number is the position of the part's first unit, and the second number is how many units
+/// the part has. Units past the text's end are zero.
 #[derive(Clone, Copy)]
 pub enum Source<'a> {
     /// A part of a literal.

@@ -1,5 +1,5 @@
-//! What edits write into a cell. The length word keeps the length from before the edit until `settle`, the last step of each edit. The
-//! units after the length word are the half words of the payload from index 2 on.
+//! How edits write into a cell. Until `settle`, the last step of each edit, the length word keeps the length from before the edit. The
+//! units of the text are the half words of the payload from index 2 on, after the length word.
 
 ghost use Rattle.std.specs.Prelude.{◌≡◌, ◌+◌, ◌-◌, ◌*◌, ◌^◌, ◌<◌, ◌≤◌, drop, length, replicate, slice_index};
 ghost use Rattle.wb_hbuf.specs.Drafts.{HasUnits, IsDraft, IsPut, put};
@@ -15,8 +15,8 @@ use wb_basics::items::Chars;
 use wb_debug::DebugHeap;
 use wb_heap_model::heap::Ptr;
 
-/// Writes the units of a source into a text, from a position on. The units are read as they were before the call, also if they are the
-/// text's own.
+/// Writes the units of a source into a text, from a position on. The units are read as they were before the call, even if the source is a
+/// part of this text.
 pub fn write_units(heap: &mut DebugHeap, ptr: Ptr, at: u32, source: Source)
     requires units { HasUnits ptr heap.old }
     requires most { 2 * length (payload_of ptr heap.old.heap.row) < 2 ^ 32 }
@@ -35,7 +35,8 @@ pub fn write_units(heap: &mut DebugHeap, ptr: Ptr, at: u32, source: Source)
     }
 }
 
-/// Writes `count` bytes of a literal as units, from `from` on, with zeros past the literal's end.
+/// Writes a part of a literal into a text, from the text's position `at` on; each byte becomes a unit. The part has `count` bytes, from the
+/// literal's index `from` on. Bytes past the literal's end count as zeros.
 fn write_literal(heap: &mut DebugHeap, ptr: Ptr, at: u32, chars: &Chars, from: u32, count: u32)
     requires units { HasUnits ptr heap.old }
     requires most { 2 * length (payload_of ptr heap.old.heap.row) < 2 ^ 32 }
@@ -49,7 +50,8 @@ fn write_literal(heap: &mut DebugHeap, ptr: Ptr, at: u32, chars: &Chars, from: u
     }
 }
 
-/// Writes `count` of these units, from `from` on, with zeros past their end.
+/// Writes a part of `units` into a text, from the text's position `at` on. The part has `count` units, from index `from` of `units` on.
+/// Units past the end of `units` count as zeros.
 fn write_part(heap: &mut DebugHeap, ptr: Ptr, at: u32, units: &[u16], from: u32, count: u32)
     requires units { HasUnits ptr heap.old }
     requires most { 2 * length (payload_of ptr heap.old.heap.row) < 2 ^ 32 }
@@ -63,7 +65,8 @@ fn write_part(heap: &mut DebugHeap, ptr: Ptr, at: u32, units: &[u16], from: u32,
     heap.zero_halves(ptr, end + 2, at + count - end);
 }
 
-/// Copies `count` units of the text in `cell`, from `from` on, with zeros past the end of this text. Both cells may be the same.
+/// Copies a part of the text in `cell` into the text in `ptr`'s cell, from position `at` of that text on. The part has `count` units, from
+/// position `from` of the text in `cell` on. Units past that text's end count as zeros. `cell` and `ptr` may name the same cell.
 fn copy_part(heap: &mut DebugHeap, ptr: Ptr, at: u32, cell: Ptr, from: u32, count: u32)
     requires units { HasUnits ptr heap.old }
     requires source { HasUnits cell heap.old }
@@ -79,7 +82,7 @@ fn copy_part(heap: &mut DebugHeap, ptr: Ptr, at: u32, cell: Ptr, from: u32, coun
     heap.zero_halves(ptr, at + there + 2, count - there);
 }
 
-/// Moves the text's units from a position on up by `gap` positions.
+/// Moves the text's units at position `at` and above to positions that are greater by `gap`.
 pub fn open_gap(heap: &mut DebugHeap, ptr: Ptr, at: u32, gap: u32)
     requires units { HasUnits ptr heap.old }
     requires most { 2 * length (payload_of ptr heap.old.heap.row) < 2 ^ 32 }
@@ -93,7 +96,7 @@ pub fn open_gap(heap: &mut DebugHeap, ptr: Ptr, at: u32, gap: u32)
     heap.copy_halves(ptr, at + 2, ptr, at + gap + 2, len - at);
 }
 
-/// Sets the text's length to `n`, after it has set the text's units past `n` to zero.
+/// First sets the text's units past `n` to zero, and then sets the text's length to `n`.
 pub fn settle(heap: &mut DebugHeap, ptr: Ptr, n: u32)
     requires units { HasUnits ptr heap.old }
     requires most { 2 * length (payload_of ptr heap.old.heap.row) < 2 ^ 32 }

@@ -1,5 +1,5 @@
-//! The heap: its plain types and their definitions, from rows of cells and the places of new ones to the calls of a debug heap; what cells
-//! hold in words; and texts.
+//! The heap's plain types and their definitions: rows of cells, the places of new cells, the calls of a debug heap, the words that cells
+//! hold, and texts.
 #![tactic(auto)]
 
 pub mod heap;

@@ -1,4 +1,5 @@
-//! The numbers that scripts and reports show of panics and of a failed allocation, each the contract of a function that does nothing.
+//! Laws that fix the numbers that scripts and reports show for panics and for a failed allocation. Each law is the contract of a function
+//! that does nothing.
 
 ghost use Rattle.std.specs.Prelude.{◌≡◌, pos, neg_ℤ};
 ghost use Rattle.wb_heap_model.specs.declared.heap.Panic.TheVariants.{User, Workbench};

@@ -1,4 +1,4 @@
-//! What a run reports of the heap.
+//! What a run reports about the heap.
 
 use crate::heap::Attempt;
 use wb_basics::items::Items;
@@ -11,16 +11,16 @@ pub struct Leak {
     pub place: u32,
 }
 
-/// The leaks of a run, in order of place.
+/// The leaks of a run, in the order of their places in the heap.
 pub type Leaks = Items<Leak>;
 
-/// The attempts of a run, in order of number.
+/// The attempts of a run, in the order of their numbers.
 pub type Trace = Items<Attempt>;
 
 /// The notes of a run, in order.
 pub type Notes = Items<Note>;
 
-/// What one of the statements `heap`, `available` and `compress` noted of the heap. Lengths are in bytes.
+/// What a `heap`, `available` or `compress` statement noted about the heap. Lengths are in bytes.
 #[derive(Clone, Copy, Debug, PartialEq, Eq)]
 pub enum Note {
     /// The number of live cells, the sum of their cell lengths, and the committed length.

@@ -1,11 +1,11 @@
-//! How long a heap a script needs.
+//! How long a heap must be for a script.
 
 ghost use Rattle.std.specs.Prelude.{◌≡◌};
 ghost use Rattle.wb_heap_model.specs.Rises.{top_of_rises};
 
 use wb_basics::items::Items;
 
-/// A granted attempt whose cell ends past all cells granted before it. `top` is where its cell ends, in bytes.
+/// A granted attempt whose cell ends past all cells that were granted earlier. `top` is the place where this attempt's cell ends, in bytes.
 #[derive(Clone, Copy, Debug, PartialEq, Eq)]
 pub struct Rise {
     pub number: u32,
@@ -15,7 +15,8 @@ pub struct Rise {
 /// The rises of a run, in order.
 pub type Rises = Items<Rise>;
 
-/// Returns the top of the last rise, in bytes; 0 if there is none. Of the rises of a run this is the greatest end of any granted cell.
+/// Returns the top of the last rise, in bytes; 0 if there is no rise. For the rises of a run, this top is the greatest end of any granted
+/// cell.
 pub fn top_of_rises(rises: &Rises) -> u32
     ensures { result ≡ top_of_rises rises.now }
 {

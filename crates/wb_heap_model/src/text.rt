@@ -1,11 +1,11 @@
-//! Views: what a view is a part of, and views of a part of a view.
+//! Views: the text that a view is a part of, and how to take a view of a part of another view.
 
 ghost use Rattle.std.specs.Prelude.{◌+◌, ◌^◌, ◌<◌, ◌≡◌, IfOk};
 ghost use Rattle.wb_heap_model.specs.Texts.{left_part, right_part, mid_part, view_of_part};
 
 use crate::heap::{Panic, Ptr};
 
-/// What a view was taken of.
+/// The text that a view was taken of.
 #[derive(Clone, Copy, Debug, PartialEq, Eq)]
 pub enum Base {
     Nothing,
@@ -14,7 +14,7 @@ pub enum Base {
     Cell(Ptr),
 }
 
-/// A part of a base: `length` units from `position` on. Units past the end of the base's text read as zero.
+/// A part of a base's text: `length` units, starting at `position`. Units past the end of the text read as zero.
 #[derive(Clone, Copy, Debug, PartialEq, Eq)]
 pub struct View {
     pub base: Base,
@@ -25,7 +25,7 @@ pub struct View {
 impl View {
     /// Returns a view of the first `count` units.
     ///
-    /// `Panic::POSITION_OUT_OF_BOUNDS` if the view has fewer.
+    /// Returns `Panic::POSITION_OUT_OF_BOUNDS` if the view has fewer than `count` units.
     pub fn left(self, count: u32) -> Result<View, Panic>
         requires { self.position + self.length < 2 ^ 32 }
         ensures part { result ≡ view_of_part self (left_part self.length count) }
@@ -36,7 +36,7 @@ impl View {
 
     /// Returns a view of the last `count` units.
     ///
-    /// `Panic::POSITION_OUT_OF_BOUNDS` if the view has fewer.
+    /// Returns `Panic::POSITION_OUT_OF_BOUNDS` if the view has fewer than `count` units.
     pub fn right(self, count: u32) -> Result<View, Panic>
         requires { self.position + self.length < 2 ^ 32 }
         ensures part { result ≡ view_of_part self (right_part self.length count) }
@@ -48,9 +48,10 @@ impl View {
         self.mid(position, count)
     }
 
-    /// Returns a view of `count` units from a position of this view on.
+    /// Returns a view of `count` units of this view. The first of these units is at `position` in this view.
     ///
-    /// `Panic::POSITION_OUT_OF_BOUNDS` if the position is past this view's end, or if fewer than `count` units follow the position.
+    /// Returns `Panic::POSITION_OUT_OF_BOUNDS` if `position` is past this view's end, or if fewer than `count` units are left from
+    /// `position` on.
     pub fn mid(self, position: u32, count: u32) -> Result<View, Panic>
         requires { self.position + self.length < 2 ^ 32 }
         ensures part { result ≡ view_of_part self (mid_part self.length position count) }

@@ -1,15 +1,15 @@
-//! `wb_cells`: the calls on one cell. The calls that make a cell longer or shorter are tested in `heaps`.
+//! `wb_cells`: the calls on one cell. The module `heaps` tests the calls that make a cell longer or shorter.
 
 use std::test::Fail;
 use wb_cells::Cells;
 use wb_heap_model::heap::{Header, Kind, Ptr};
 
-/// Whether 256 bytes are held, and a cell of 32 bytes first fits at place 0.
+/// Whether the memory has 256 bytes, and the first place with room for a cell of 32 bytes is place 0.
 fn has_room(cells: &Cells) -> bool {
     cells.held() == 256 && cells.first_fit(32) == 0
 }
 
-/// Whether the cell at place 0 with this header is the only live cell, and there is no free cell.
+/// Whether the cell at place 0 with this header is the only live cell, and no free cell is left.
 fn has_one(cells: &Cells, cell: Ptr, header: Header) -> bool {
     cells.header(cell) == Some(header)
         && cells.next_live(0) == Some(header)
@@ -18,7 +18,7 @@ fn has_one(cells: &Cells, cell: Ptr, header: Header) -> bool {
         && cells.top() == 32
 }
 
-/// Whether there is no live cell, and the pointer names none.
+/// Whether no cell is live, and the pointer names no cell.
 fn has_none(cells: &Cells, cell: Ptr) -> bool {
     cells.header(cell).is_none() && cells.top() == 0
 }

@@ -1,4 +1,4 @@
-//! `wb_chunk`: each call on a chunk on its happy path, and what a failed growth leaves.
+//! Tests of `wb_chunk`: each call on a chunk in a case where it succeeds, and what a chunk holds after a growth that failed.
 
 ghost use Rattle.std.specs.Prelude.{◌≡◌, ◌+◌, ◌≤◌, length, OnOk, IfOk};
 
@@ -6,7 +6,7 @@ use std::alloc::{AllocError, Global};
 use std::test::Fail;
 use wb_chunk::{Chunk, MOST_WORDS};
 
-// A chunk of the words 1 to 6.
+// A chunk that holds the words 1 to 6.
 fn six_words(alloc: Global) -> Result<Chunk, AllocError>
     ensures { IfOk result (λ c. length c ≡ 6) }
 {
@@ -18,7 +18,7 @@ fn six_words(alloc: Global) -> Result<Chunk, AllocError>
     Ok(chunk)
 }
 
-// Grows a chunk, while a caller's proof learns only the new length: a list of millions of zeros would be too long for the proof.
+// Grows a chunk. The contract gives callers only the new length: a list of millions of zeros would be too long for a caller's proof.
 fn grow_by(chunk: &mut Chunk, n: u32) -> Result<(), AllocError>
     requires { length chunk.old + n ≤ MOST_WORDS }
     ensures { OnOk result (length chunk.new ≡ length chunk.old + n) }
@@ -93,7 +93,7 @@ fn the_named_words_become_zero(rt: HostRuntime) -> Result<(), Fail> {
     Ok(())
 }
 
-// Whether the chunk of the words 1 to 6 holds `words` after `count` of them are copied.
+// Whether a chunk that held the words 1 to 6 holds `words` after `count` of its words were copied from index `from` to index `to`.
 fn copies_to(
     alloc: Global,
     from: u32,
@@ -125,7 +125,7 @@ fn four_words_are_written_at_once(rt: HostRuntime) -> Result<(), Fail> {
     Ok(())
 }
 
-// A chunk of `count` words: the word at index i is i + 1 if that is a multiple of `step`, and else 0.
+// A chunk of `count` words. The word at index i is i + 1 if i + 1 is a multiple of `step`, and 0 if not.
 fn spread(alloc: Global, count: u32, step: u32) -> Result<Chunk, AllocError>
     requires bound { count ≤ MOST_WORDS }
     requires step { 1 ≤ step }
@@ -152,7 +152,7 @@ fn is_spread(chunk: &Chunk, count: u32, step: u32) -> bool
     same
 }
 
-// Chunks over whose memory another is copied: how many words each has, and the step of its words that are not 0.
+// Chunks whose memory a copy of another chunk takes: how many words each chunk has, and the step of its words that aren't 0.
 static SPARES: [(u32, u32); 8] = [
     (0, 1),
     (300, 1),
@@ -164,7 +164,7 @@ static SPARES: [(u32, u32); 8] = [
     (1500, 1500),
 ];
 
-// Whether a copy of 700 words over another chunk has these words, and no change to the copy or to its source changes the other.
+// Whether a copy of 700 words over another chunk has the words of its source, and no change to the copy or to the source changes the other.
 fn is_apart_over(alloc: Global, count: u32, step: u32) -> Result<bool, AllocError> {
     if MOST_WORDS < count || step == 0 {
         return Ok(false);
@@ -189,7 +189,7 @@ fn a_copy_over_another_chunk_is_apart(rt: HostRuntime) -> Result<(), Fail> {
     Ok(())
 }
 
-// If an allocation is made to fail, this test meets the failed growth.
+// If one of the workbench's own allocations fails, this test sees a growth that fails.
 #[test]
 fn a_refused_growth_leaves_the_chunk(rt: HostRuntime) {
     let mut chunk = Chunk::new(rt.alloc());

@@ -1,5 +1,5 @@
-//! Copies of heaps, cells and words: each reports what its source reports, and no change to one changes the other. Copies of heaps are
-//! taken before the sixth attempt of a script that frees neighbours and then asks for a cell in their place.
+//! Tests of copies of heaps, cells and words. Each copy reports the same as its source, and no change to a copy or its source changes the
+//! other. Copies of heaps are taken before attempt 6, on a heap where neighbours were freed. Attempt 6 then asks for a cell in their place.
 
 use crate::debug_calls::{Call as DebugCall, Marked, WorkedDebugHeap};
 use crate::heap_calls::{Call as HeapCall, Numbered, WorkedHeap};
@@ -12,7 +12,7 @@ use wb_chunk::Chunk;
 use wb_heap_model::heap::Answer::Granted;
 use wb_heap_model::heap::{Header, Kind, Ptr};
 
-/// A heap that is copied after some calls: what both report then, and calls that change one of them.
+/// A heap that is copied after some calls, what the heap and its copy both report then, and calls that change one of the two.
 struct Copied<W, C: 'static> {
     before: W,
     told: &'static [C],
@@ -123,9 +123,9 @@ static HEAP: Copied<WorkedHeap, HeapCall> = Copied {
     ],
 };
 
-// There is one function for each step, since a proof gets longer with each heap that a function drops.
+// Each step is a function of its own, because a proof gets longer with each heap that a function drops.
 
-/// Whether a heap reports the same before and after another one changes.
+/// Whether a heap reports the same before and after another heap changes.
 fn stays_beside<H: Called>(
     heap: &mut H,
     other: &mut H,
@@ -137,8 +137,8 @@ fn stays_beside<H: Called>(
     is_same & has_changed & all_answer(heap, told)
 }
 
-/// Whether a copy stays as it is while a second copy, over the memory of `spare`, changes; and whether the first copy then changes in the
-/// same way.
+/// Whether a first copy stays unchanged while a second copy, over the memory of `spare`, changes. The first copy must also change in the
+/// same way afterwards.
 fn is_apart_over<H: Called>(
     spare: H,
     copy: &mut H,
@@ -150,7 +150,7 @@ fn is_apart_over<H: Called>(
     Ok(stays & all_answer(copy, changes))
 }
 
-/// Whether a copy stays as it is while its source changes, and while a copy of the copy changes.
+/// Whether a copy stays unchanged while its source changes, and also while a copy of the copy changes.
 fn is_apart<H: Called>(
     mut source: H,
     told: &[H::Call],

@@ -1,4 +1,4 @@
-//! Calls on a debug heap with the answers that they must give, so that a worked debug heap is a table of calls.
+//! Calls on a debug heap, each with the answer that it must give. So a table of calls describes a worked debug heap.
 
 ghost use Rattle.std.specs.Prelude.{◌≡◌};
 
@@ -12,24 +12,24 @@ use wb_debug::{DebugFault, DebugHeap};
 use wb_heap_model::heap::{Answer, Attempt, Gave, Kind, Panic, Ptr, Shape};
 use wb_heap_model::reported::{Leak, Leaks, Note, Trace};
 
-/// A call on a debug heap. The answer that it must give is last. Lengths are in bytes, without the header.
+/// A call on a debug heap. The last field is the answer that the call must give. Lengths are in bytes, without the header.
 #[derive(Clone, Copy)]
 pub(crate) enum Call {
-    /// The cell that is granted.
+    /// An attempt that must be granted: the bytes, and the granted cell.
     Alloc(u32, Cell),
-    /// The attempt is denied.
+    /// An attempt to get a cell that must fail.
     NoAlloc(u32),
     AllocPastCeiling(u32),
-    /// Where the cell is afterwards, and its allocation number.
+    /// A reallocation that must be granted: the cell, the bytes, and the cell's new place and allocation number.
     Realloc(Cell, u32, Cell),
-    /// The attempt is denied.
+    /// A reallocation that must fail.
     NoRealloc(Cell, u32),
     ReallocPastCeiling(Cell, u32),
     Free(Cell),
-    /// The pointer names no cell.
+    /// A call to free a cell by a pointer that names no cell.
     NoFree(Cell),
     Mark,
-    /// The panic, if the call panics; so in the next two.
+    /// The panic of the call; `None` if the call must not panic. The next two calls have the same field.
     MarkEnd(u32, Option<Panic>),
     Check(u32, Option<Panic>),
     CheckAll(u32, Option<Panic>),
@@ -38,36 +38,37 @@ pub(crate) enum Call {
     FailNone,
     Store(Cell, u32, u32),
     StoreHalf(Cell, u32, u16),
-    /// Copies from the first cell to the second; last, how many words.
+    /// Copies words from the first cell to the second cell. The number says how many words.
     Copy(Cell, Cell, u32),
-    /// The index of the first half, and how many halves become 0.
+    /// The index of the first half that becomes 0, and how many halves become 0. A half is 16 bits of a word.
     ZeroHalves(Cell, u32, u32),
-    /// The index of the first 16-bit half word to write, and the half words.
+    /// The index of the first half that is written, and the halves.
     WriteHalves(Cell, u32, &'static [u16]),
-    /// Copies from a half of the first cell to a half of the second; last, how many halves.
+    /// Copies halves from the first cell, from an index on, to an index of the second cell. The last number says how many halves.
     CopyHalves(Cell, u32, Cell, u32, u32),
-    /// The index of a word of the payload, and the word.
+    /// The index of a word of the payload, and the value that the word must have.
     Word(Cell, u32, u32),
     Half(Cell, u32, u16),
-    /// The cell's length, header included, and its level.
+    /// The cell's length, with the header, and the cell's level.
     Header(Cell, u32, u32),
-    /// The pointer names no cell, so it has no header.
+    /// A pointer that names no cell, and so no header.
     NoHeader(Cell),
     Attempts(u32),
-    /// The number, length, place and answer of each attempt.
+    /// The number, length, place and answer of each attempt in the trace.
     Trace(&'static [(u32, u32, u32, Answer)]),
-    /// The number, length and place of each cell.
+    /// The number, length and place of each live cell.
     Leaks(&'static [(u32, u32, u32)]),
-    /// Live cells, their bytes, and the committed length.
+    /// The number of live cells, the bytes that they take together, and the committed length.
     Size(u32, u32, u32),
     Available(u32, u32),
     Compress(u32),
 }
 
-/// A debug heap under a rule and of a shape, and the calls that are made on it after attempt 1, which gets the cleanup stack's 128 bytes.
+/// A debug heap with a rule and a shape, and the calls that are made on it. Attempt 1, which gets the cleanup stack's cell for 128 bytes,
+/// is made before these calls.
 #[derive(Clone, Copy)]
 pub(crate) struct WorkedDebugHeap {
-    /// What the calls show.
+    /// What the calls show, in words.
     pub(crate) about: &'static str,
     pub(crate) rule: Refuses,
     pub(crate) shape: Shape,
@@ -82,7 +83,7 @@ pub(crate) struct Marked {
     ghost open: { heap.heap.level ≡ marks },
 }
 
-/// The index of the first call that gives another answer.
+/// The index of the first call that gives an answer other than the table's; `None` if there is no such call.
 pub(crate) fn first_other(
     alloc: Global,
     worked: &WorkedDebugHeap,
@@ -96,7 +97,7 @@ impl Called for Marked {
 
     type Fault = DebugFault;
 
-    /// Whether a call gives its answer.
+    /// Whether a call gives the answer in the table.
     fn answers(&mut self, call: Call) -> bool {
         match call {
             Call::Alloc(bytes, cell) => self.alloc(bytes) == Some(grant_of(cell)),
@@ -123,7 +124,7 @@ impl Called for Marked {
         })
     }
 
-    /// A copy over the memory of `spare`, a heap that is no longer needed.
+    /// A copy of this heap that takes over the memory of `spare`, a heap that is no longer needed.
     fn try_copy_over(&self, spare: Marked) -> Result<Marked, DebugFault> {
         let (_, heap) = spare.heap.into_trace_and_heap();
         Ok(Marked {
@@ -134,7 +135,7 @@ impl Called for Marked {
 }
 
 impl Marked {
-    /// A heap after attempt 1.
+    /// A debug heap on which attempt 1 has been made.
     pub(crate) fn new(alloc: Global, worked: &WorkedDebugHeap) -> Result<Marked, DebugFault> {
         let mut marked = Marked {
             heap: DebugHeap::new(alloc, worked.rule.rule(alloc)?, worked.shape)?,
@@ -146,7 +147,7 @@ impl Marked {
         }
     }
 
-    /// Whether a call that writes halves of a payload gives its answer, or one of the calls below.
+    /// Whether a call that writes halves of a payload gives its answer. Other calls are passed on to `sets`.
     fn writes_halves(&mut self, call: Call) -> bool {
         match call {
             Call::StoreHalf(cell, i, v) => self.store_half(pointer(cell), i, v),
@@ -159,7 +160,8 @@ impl Marked {
         }
     }
 
-    /// Whether a call that opens or closes a mark, or sets which attempts fail, gives its answer, or one of the calls below.
+    /// Whether a call that opens or closes a mark, or that sets which attempts fail, gives its answer. Other calls are passed on to
+    /// `tells`.
     fn sets(&mut self, call: Call) -> bool {
         match call {
             Call::Mark => self.mark(),
@@ -207,7 +209,7 @@ impl Marked {
         }
     }
 
-    /// An attempt to get a cell, or `None` if it can't be made.
+    /// Makes an attempt to get a cell. Returns `None` if the attempt can't be made.
     fn attempt(&mut self, bytes: u32, kind: Kind) -> Option<Gave> {
         if self.heap.attempts() == u32::MAX || bytes > CEILING {
             return None;
@@ -215,12 +217,12 @@ impl Marked {
         self.heap.attempt_alloc(bytes, kind).ok()
     }
 
-    /// An attempt to get a raw cell.
+    /// Makes an attempt to get a raw cell.
     fn alloc(&mut self, bytes: u32) -> Option<Gave> {
         self.attempt(bytes, Kind::Raw)
     }
 
-    /// A reallocation of a cell, or `None` if there is no such cell.
+    /// Makes an attempt to reallocate a cell. Returns `None` if there is no such cell.
     fn realloc(&mut self, cell: Cell, bytes: u32) -> Option<Gave> {
         let ptr = pointer(cell);
         if self.heap.attempts() == u32::MAX || bytes > CEILING || self.heap.header(ptr).is_none() {
@@ -229,7 +231,7 @@ impl Marked {
         self.heap.attempt_realloc(ptr, bytes).ok()
     }
 
-    /// Opens a mark. Returns whether there could be one more.
+    /// Opens a mark. Returns `false` if the heap can't have one more mark.
     fn mark(&mut self) -> bool {
         let Some(marks) = self.marks.checked_add(1) else {
             return false;
@@ -259,7 +261,7 @@ impl Marked {
         }
     }
 
-    /// Stores a half of a word. Returns whether the payload has such a half.
+    /// Stores 16 bits, which are a half of a word. Returns whether the payload has such a half.
     fn store_half(&mut self, ptr: Ptr, i: u32, v: u16) -> bool {
         match self.heap.header(ptr) {
             Some(header) if i < 2 * header.words() => {
@@ -270,7 +272,7 @@ impl Marked {
         }
     }
 
-    /// Copies `n` words. Returns whether both payloads have that many.
+    /// Copies `n` words. Returns whether both payloads have at least `n` words.
     fn copy(&mut self, from: Ptr, to: Ptr, n: u32) -> bool {
         match (self.heap.header(from), self.heap.header(to)) {
             (Some(source), Some(target)) if n <= source.words() && n <= target.words() => {
@@ -281,7 +283,7 @@ impl Marked {
         }
     }
 
-    /// Sets `n` halves to 0. Returns whether the payload has that many from index `i` on.
+    /// Sets `n` halves to 0. Returns whether the payload has `n` halves from index `i` on.
     fn zero_halves(&mut self, ptr: Ptr, i: u32, n: u32) -> bool {
         match self.heap.header(ptr) {
             Some(header) if i <= 2 * header.words() && n <= 2 * header.words() - i => {
@@ -292,7 +294,7 @@ impl Marked {
         }
     }
 
-    /// Writes halves. Returns whether the payload has that many from index `i` on.
+    /// Writes halves. Returns whether the payload has so many halves from index `i` on.
     fn write_halves(&mut self, ptr: Ptr, i: u32, halves: &[u16]) -> bool {
         match self.heap.header(ptr) {
             Some(header) if i <= 2 * header.words() => {
@@ -306,7 +308,7 @@ impl Marked {
         }
     }
 
-    /// Copies `n` halves. Returns whether both payloads have that many from the two indexes on.
+    /// Copies `n` halves. Returns whether each payload has `n` halves from its index on.
     fn copy_halves(&mut self, from: Ptr, fi: u32, to: Ptr, ti: u32, n: u32) -> bool {
         let (Some(source), Some(target)) = (self.heap.header(from), self.heap.header(to)) else {
             return false;
@@ -336,7 +338,7 @@ impl Marked {
     }
 }
 
-/// The answer that grants a cell.
+/// What an attempt gives if the heap grants it this cell.
 fn grant_of(cell: Cell) -> Gave {
     Gave::Granted(pointer(cell))
 }

@@ -1,5 +1,5 @@
-//! `wb_debug`: worked debug heaps, by what scripts ask of them, and the answers, places and refusals that their reports must
-//! have.
+//! Tests of `wb_debug` with worked debug heaps: calls as scripts make them, and the answers, places and refusals that the heaps must
+//! report.
 
 use crate::debug_calls::{Call, WorkedDebugHeap, first_other};
 use crate::rules::Refuses;

@@ -1,4 +1,5 @@
-//! `wb_chunk`: ranges of halves that begin at odd and even indexes and have odd and even lengths, and copies that overlap their source.
+//! Tests of `wb_chunk` on halves of words: ranges that begin at odd and even indexes, with odd and even lengths, and copies whose target
+//! overlaps their source.
 
 ghost use Rattle.std.specs.Prelude.{◌≡◌, length, IfOk};
 
@@ -7,18 +8,18 @@ use std::alloc::{AllocError, Global};
 use std::test::Fail;
 use wb_chunk::Chunk;
 
-/// A call on the halves 1 to 12.
+/// A call on a chunk that holds the halves 1 to 12.
 #[derive(Clone, Copy)]
 enum Run {
-    /// The first index, and how many halves become 0 from there on.
+    /// The index of the first half that becomes 0, and how many halves become 0.
     Zero(u32, u32),
-    /// The first index, and the halves that are written from there on.
+    /// The index of the first half that is written, and the halves.
     Write(u32, &'static [u16]),
-    /// The first index that is read, the first that is written, and how many halves are copied.
+    /// The index of the first half that is read, the index of the first half that is written, and how many halves are copied.
     Copy(u32, u32, u32),
 }
 
-/// Calls, and the words that each leaves.
+/// Calls, each with the words that the chunk must hold afterwards.
 static RUNS: [(Run, [u32; 6]); 31] = [
     (
         Run::Zero(0, 0),
@@ -146,7 +147,7 @@ static RUNS: [(Run, [u32; 6]); 31] = [
     ),
 ];
 
-/// Six words of the halves 1 to 12.
+/// A chunk of six words that hold the halves 1 to 12.
 fn twelve_halves(alloc: Global) -> Result<Chunk, AllocError>
     ensures { IfOk result (λ c. length c ≡ 6) }
 {
@@ -158,7 +159,7 @@ fn twelve_halves(alloc: Global) -> Result<Chunk, AllocError>
     Ok(chunk)
 }
 
-/// Whether a call leaves these words.
+/// Whether the chunk holds these words after a call.
 fn leaves(alloc: Global, run: Run, words: &[u32]) -> Result<bool, AllocError> {
     let mut chunk = twelve_halves(alloc)?;
     match run {

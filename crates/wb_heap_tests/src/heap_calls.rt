@@ -1,4 +1,4 @@
-//! Calls on a heap with the answers that they must give, so that a worked heap is a table of calls.
+//! Calls on a heap, each with the answer that it must give. So a table of calls describes a worked heap.
 
 ghost use Rattle.std.specs.Prelude.{◌<◌, ◌≤◌, All, IsTrue};
 ghost use Rattle.wb_heap_model.specs.LimitedHeap.{IsCellLength};
@@ -11,7 +11,7 @@ use wb_basics::limits::CEILING;
 use wb_heap_model::heap::{Header, Kind, Ptr, Shape};
 use wb_rheap::{Heap, HeapFault};
 
-/// A cell, by its place and its allocation number.
+/// The place and the allocation number of a cell.
 pub(crate) type Cell = (u32, u32);
 
 /// The pointer to a cell.
@@ -22,59 +22,59 @@ pub(crate) fn pointer(cell: Cell) -> Ptr {
     }
 }
 
-/// A call on a heap. The answer that it must give is last. Lengths are those of cells, in bytes, with the header.
+/// A call on a heap. The last field is the answer that the call must give. Lengths are of whole cells, in bytes, with the header.
 #[derive(Clone, Copy)]
 pub(crate) enum Call {
-    /// The cell that is granted.
+    /// An attempt that must be granted: the length, and the granted cell.
     Alloc(u32, Cell),
-    /// The attempt is denied, since the cell would end past the limit.
+    /// An attempt that must fail, because the cell would end past the limit.
     NoAlloc(u32),
-    /// Where the cell is afterwards, and its allocation number.
+    /// A reallocation that must be granted: the cell, the length, and the cell's new place and allocation number.
     Realloc(Cell, u32, Cell),
-    /// Why the cell stays as it is.
+    /// A reallocation that must fail, and the fault because of which the cell stays unchanged.
     NoRealloc(Cell, u32, HeapFault),
     Free(Cell),
-    /// The pointer names no cell.
+    /// A call to free a cell by a pointer that names no cell.
     NoFree(Cell),
     SetLevel(Cell, u32),
     Store(Cell, u32, u32),
     StoreHalf(Cell, u32, u16),
-    /// Copies from the first cell to the second; last, how many words.
+    /// Copies words from the first cell to the second cell. The number says how many words.
     Copy(Cell, Cell, u32),
-    /// The index of the first half, and how many halves become 0.
+    /// The index of the first half that becomes 0, and how many halves become 0. A half is 16 bits of a word.
     ZeroHalves(Cell, u32, u32),
-    /// The index of the first half, and the halves that are written.
+    /// The index of the first half that is written, and the halves.
     WriteHalves(Cell, u32, &'static [u16]),
-    /// Copies from a half of the first cell to a half of the second; last, how many halves.
+    /// Copies halves from the first cell, from an index on, to an index of the second cell. The last number says how many halves.
     CopyHalves(Cell, u32, Cell, u32, u32),
-    /// The index of a word of the payload, and the word.
+    /// The index of a word of the payload, and the value that the word must have.
     Word(Cell, u32, u32),
-    /// The payload has no such word.
+    /// An index past the last word of the payload.
     NoWord(Cell, u32),
     Half(Cell, u32, u16),
     PlaceFor(u32, u32),
     PlaceForRealloc(Cell, u32, u32),
     /// The length of the cell's payload, in bytes.
     AllocLen(Cell, u32),
-    /// The cell's length and its level.
+    /// The cell's length and the cell's level.
     Header(Cell, u32, u32),
-    /// The pointer names no cell, so it has no header.
+    /// A pointer that names no cell, and so no header.
     NoHeader(Cell),
-    /// The first live cell that begins at a place or above it.
+    /// The first live cell that begins at this place or above it.
     NextLive(u32, Cell),
     NoneLive(u32),
-    /// Live cells, their bytes, and the committed length.
+    /// The number of live cells, the bytes that they take together, and the committed length.
     Size(u32, u32, u32),
     Available(u32, u32),
     Compress(u32),
     Held(u32),
 }
 
-/// A heap of a limit and a shape, and the calls that are made on it after its first attempt, which gets the cleanup stack's cell of 144
-/// bytes at place 0.
+/// A heap with a limit and a shape, and the calls that are made on it. The first attempt, which gets the cleanup stack's cell of 144 bytes
+/// at place 0, is made before these calls.
 #[derive(Clone, Copy)]
 pub(crate) struct WorkedHeap {
-    /// What the calls show.
+    /// What the calls show, in words.
     pub(crate) about: &'static str,
     pub(crate) limit: u32,
     pub(crate) shape: Shape,
@@ -90,7 +90,7 @@ pub(crate) struct Numbered {
     ghost below: { All (λ h. h.number < next) (headers heap.row) },
 }
 
-/// The index of the first call that gives another answer.
+/// The index of the first call that gives an answer other than the table's; `None` if there is no such call.
 pub(crate) fn first_other(alloc: Global, worked: &WorkedHeap) -> Result<Option<usize>, HeapFault> {
     let mut numbered = Numbered::new(alloc, worked)?;
     Ok(walker::first_other(&mut numbered, worked.calls))
@@ -101,7 +101,7 @@ impl Called for Numbered {
 
     type Fault = HeapFault;
 
-    /// Whether a call gives its answer.
+    /// Whether a call gives the answer in the table.
     fn answers(&mut self, call: Call) -> bool {
         match call {
             Call::Alloc(length, cell) => self.grant(length) == Ok(pointer(cell)),
@@ -130,7 +130,7 @@ impl Called for Numbered {
         }
     }
 
-    /// A copy over the memory of `spare`, a heap that is no longer needed.
+    /// A copy of this heap that takes over the memory of `spare`, a heap that is no longer needed.
     fn try_copy_over(&self, spare: Numbered) -> Result<Numbered, HeapFault> {
         match self.heap.try_copy_over(Some(spare.heap)) {
             Ok(heap) => Ok(Numbered {
@@ -143,7 +143,7 @@ impl Called for Numbered {
 }
 
 impl Numbered {
-    /// A heap after its first attempt.
+    /// A heap on which the first attempt has been made.
     pub(crate) fn new(alloc: Global, worked: &WorkedHeap) -> Result<Numbered, HeapFault> {
         if worked.limit > CEILING {
             return Err(HeapFault::TooShort);
@@ -156,7 +156,7 @@ impl Numbered {
         Ok(numbered)
     }
 
-    /// Whether a call that writes halves of a payload gives its answer, or one of the calls below.
+    /// Whether a call that writes halves of a payload gives its answer. Other calls are passed on to `tells`.
     fn writes_halves(&mut self, call: Call) -> bool {
         match call {
             Call::StoreHalf(cell, i, v) => self.store_half(pointer(cell), i, v),
@@ -169,7 +169,7 @@ impl Numbered {
         }
     }
 
-    /// Whether a call that changes nothing and reads one cell gives its answer, or one of the calls below.
+    /// Whether a call that reads one cell without changing anything gives its answer. Other calls are passed on to `tells_of_all`.
     fn tells(&self, call: Call) -> bool {
         match call {
             Call::Word(cell, i, v) => self.word(pointer(cell), i) == Some(v),
@@ -189,7 +189,7 @@ impl Numbered {
         }
     }
 
-    /// Whether a call that finds no cell, or looks at the whole heap, gives its answer.
+    /// Whether a call that finds no cell, or that looks at the whole heap, gives its answer.
     fn tells_of_all(&self, call: Call) -> bool {
         match call {
             Call::NoHeader(cell) => {
@@ -212,7 +212,7 @@ impl Numbered {
         }
     }
 
-    /// An attempt to get a raw cell of this length.
+    /// Makes an attempt to get a raw cell of this length.
     fn grant(&mut self, length: u32) -> Result<Ptr, HeapFault> {
         if !is_cell_length(length) {
             return Err(HeapFault::BadShape);
@@ -226,7 +226,7 @@ impl Numbered {
         granted
     }
 
-    /// An attempt to give a cell another length.
+    /// Makes an attempt to give a cell another length.
     fn regrant(&mut self, ptr: Ptr, length: u32) -> Result<Ptr, HeapFault> {
         if !is_cell_length(length) {
             return Err(HeapFault::BadShape);
@@ -267,7 +267,7 @@ impl Numbered {
         }
     }
 
-    /// Stores a half of a word. Returns whether the payload has such a half.
+    /// Stores 16 bits, which are a half of a word. Returns whether the payload has such a half.
     fn store_half(&mut self, ptr: Ptr, i: u32, v: u16) -> bool {
         match self.heap.header(ptr) {
             Some(header) if i < 2 * header.words() => {
@@ -278,7 +278,7 @@ impl Numbered {
         }
     }
 
-    /// Copies `n` words. Returns whether both payloads have that many.
+    /// Copies `n` words. Returns whether both payloads have at least `n` words.
     fn copy(&mut self, from: Ptr, to: Ptr, n: u32) -> bool {
         match (self.heap.header(from), self.heap.header(to)) {
             (Some(source), Some(target)) if n <= source.words() && n <= target.words() => {
@@ -289,7 +289,7 @@ impl Numbered {
         }
     }
 
-    /// Sets `n` halves to 0. Returns whether the payload has that many from index `i` on.
+    /// Sets `n` halves to 0. Returns whether the payload has `n` halves from index `i` on.
     fn zero_halves(&mut self, ptr: Ptr, i: u32, n: u32) -> bool {
         match self.heap.header(ptr) {
             Some(header) if i <= 2 * header.words() && n <= 2 * header.words() - i => {
@@ -300,7 +300,7 @@ impl Numbered {
         }
     }
 
-    /// Writes halves. Returns whether the payload has that many from index `i` on.
+    /// Writes halves. Returns whether the payload has so many halves from index `i` on.
     fn write_halves(&mut self, ptr: Ptr, i: u32, halves: &[u16]) -> bool {
         match self.heap.header(ptr) {
             Some(header) if i <= 2 * header.words() => {
@@ -314,7 +314,7 @@ impl Numbered {
         }
     }
 
-    /// Copies `n` halves. Returns whether both payloads have that many from the two indexes on.
+    /// Copies `n` halves. Returns whether each payload has `n` halves from its index on.
     fn copy_halves(&mut self, from: Ptr, fi: u32, to: Ptr, ti: u32, n: u32) -> bool {
         let (Some(source), Some(target)) = (self.heap.header(from), self.heap.header(to)) else {
             return false;
@@ -343,7 +343,8 @@ impl Numbered {
         }
     }
 
-    /// The place that a cell gets if it grows to `length` bytes, or `None` if there is no such cell or it is that long already.
+    /// The place that a cell gets if it grows to `length` bytes. The result is `None` if there is no such cell, or if the cell already has
+    /// this length.
     fn longer_place(&self, ptr: Ptr, length: u32) -> Option<u32> {
         match self.heap.header(ptr) {
             Some(cell) if cell.length < length && is_cell_length(length) => Some(

@@ -1,4 +1,4 @@
-//! `wb_rheap`: worked heaps, by what scripts ask of them, and the places, notes and refusals that their reports must have.
+//! Tests of `wb_rheap` with worked heaps: calls as scripts make them, and the places, notes and refusals that the heaps must report.
 
 use crate::heap_calls::{Call, WorkedHeap, first_other};
 use crate::shapes::{SHAPE, SMALL_STEP, WITH_MINIMUM};
@@ -190,7 +190,7 @@ static GRANTS_AND_RELEASES: [WorkedHeap; 10] = [
     },
 ];
 
-/// Where cells go that grow, what they hold afterwards, and what cells that shrink leave.
+/// Where cells that grow must be afterwards, what they must hold, and what cells that shrink must leave free.
 static REALLOCATIONS: [WorkedHeap; 9] = [
     WorkedHeap {
         about: "a cell grows into a hole that just fits",

@@ -1,5 +1,5 @@
-//! Nothing but tests: of the heap, from words of memory up to attempts, by the public calls of the crates that hold it. They are
-//! here so that those crates are proved once, and not again with their tests.
+//! This crate has only tests of the heap, from words of memory up to attempts. The tests use the public calls of the heap's crates. The
+//! tests have a crate of their own so that the heap's crates are proved once, and not again with their tests.
 #![tactic(auto)]
 
 #[cfg(test)]

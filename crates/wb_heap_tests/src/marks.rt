@@ -1,4 +1,4 @@
-//! `wb_debug`: worked debug heaps whose marks are checked, by what checks count and what the end of a mark leaves.
+//! Tests of `wb_debug` with worked debug heaps that have marks: how many cells each check counts, and what remains when a mark ends.
 
 use crate::debug_calls::{Call, WorkedDebugHeap, first_other};
 use crate::rules::Refuses;

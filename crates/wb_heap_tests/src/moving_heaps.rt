@@ -1,11 +1,11 @@
-//! `wb_rheap`: worked heaps in which each cell that grows moves.
+//! Tests of `wb_rheap` with worked heaps in which each cell that grows moves.
 
 use crate::heap_calls::{Call, WorkedHeap, first_other};
 use crate::shapes::MOVING;
 use std::test::Fail;
 use wb_rheap::HeapFault;
 
-/// Where cells go that grow, though the bytes after them are free each time.
+/// Where cells that grow must be afterwards. The bytes after such a cell are free each time, but the cell moves all the same.
 static MOVES: [WorkedHeap; 2] = [
     WorkedHeap {
         about: "a cell that has room moves, and a lower hole takes it back",

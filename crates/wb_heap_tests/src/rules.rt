@@ -1,10 +1,10 @@
-//! Rules as the tests' tables name them. A static can't own a list, as a [`Rule`] may, but it can borrow one.
+//! Rules as the tables of the tests write them. A [`Rule`] may own a list, which a static can't own; but a static can borrow a list.
 
 use std::alloc::Global;
 use wb_basics::memory::NoMemory;
 use wb_heap_model::heap::{Numbers, Rule};
 
-/// Which attempts are denied or made to fail.
+/// Which attempts fail.
 #[derive(Clone, Copy)]
 pub(crate) enum Refuses {
     Nothing,

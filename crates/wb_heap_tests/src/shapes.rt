@@ -1,4 +1,4 @@
-//! Shapes of heaps that the tests' tables name. In all but the last, a cell that grows stays at its place if it can.
+//! Shapes of heaps for the tables of the tests. In all shapes but the last, a cell that grows stays at its place if possible.
 
 use wb_heap_model::heap::Shape;
 
@@ -16,7 +16,7 @@ pub(crate) const SMALL_STEP: Shape = Shape {
     moving: false,
 };
 
-/// The heap has a least length, and a growth step that is less.
+/// The heap has a least length, and a growth step that is less than this length.
 pub(crate) const WITH_MINIMUM: Shape = Shape {
     min: 256,
     step: 64,

@@ -1,5 +1,5 @@
-//! The language of scripts: lines, words and forms, which tree they spell, the checks of a script and their faults; and the laws of reading
-//! lines.
+//! The language of scripts: lines, words and forms, the tree that they spell, the checks of a script and their faults, and the laws of
+//! reading lines.
 #![tactic(auto)]
 
 pub mod fault;

@@ -1,15 +1,15 @@
-//! Laws of the definitions of lines and words. Each is the contract of a function that does nothing, so
-//! that the gate proves it.
+//! Laws of the definitions of lines and words. Each law is the contract of a function that does nothing, so that checking the function
+//! proves the law.
 
 ghost use Rattle.std.specs.Prelude.{ℕ, List};
 ghost use Rattle.wb_language.specs.Writing.{ReadsLines, ReadsWords, ReadsLiterals, IsMadeOfWords};
 
-/// Lines that each end with a line feed are read as these lines, and so they are if only the last has none.
+/// Lines that each end with a line feed are read as these lines, even if the last line has no line feed.
 pub fn lines_are_read()
     ensures { (lines : List (List ℕ)) → ReadsLines lines }
 {}
 
-/// Words with a blank after each are read as these words, a quoted text as one word.
+/// Words that are each followed by a blank are read as these words, and a quoted text is read as one word.
 pub fn words_are_read()
     ensures { (words : List (List ℕ)) → ReadsWords words }
 {}

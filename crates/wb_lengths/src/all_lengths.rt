@@ -18,11 +18,11 @@ use wb_heap_model::heap::{Rule, Shape};
 use wb_machine::{RunFault, run};
 use wb_meaning::run::RunResult;
 use wb_runs::lengths::LengthTable;
-use wb_runs::progress::{Progress, Silent};
+use wb_runs::progress::Progress;
 use wb_runs::run_end::RunEnd;
 use wb_tree::script::Script;
 
-/// The least length of heap whose run leaks or panics, in bytes, and the result of that run.
+/// The least length of heap, in bytes, whose run leaks or panics, and the result of this run.
 #[derive(Debug, Drop)]
 pub struct BadLength {
     pub length: u32,
@@ -40,13 +40,13 @@ pub struct LengthFindings {
 }
 
 /// Finds how the runs of a script end in heaps of all lengths from 0 to the ceiling, 16 MiB, and the least of these lengths whose run leaks
-/// or panics, with the result of that run. Lengths whose runs are cut at the budget, a number of steps, make ranges of the table like
-/// others. `BadShape` is returned exactly if no heap may have this shape, even if memory would run out as well. `progress` is notified of
-/// each run from which the table is made.
+/// or panics, with the result of that run. Lengths whose runs are cut at the budget (a number of steps) make ranges of the table too.
+/// `BadShape` is returned exactly if no heap may have this shape, even if memory would run out as well. `progress` is notified of
+/// each run from which the table is made, and of the steps that it has taken.
 ///
-/// One run answers for many lengths. A cell that a heap denies would end past that heap, so if no granted cell of a run ends past some
-/// shorter length, the run in a heap of that shorter length is the same except for notes. So one run is made for each range of lengths
-/// whose runs have the same trace, and one more for the least length whose run leaks or panics, if there is one.
+/// One run gives the result for many lengths. A cell that a heap refuses would end past the heap. So if no granted cell of a run ends past
+/// some shorter length, the run in a heap of this shorter length is the same except for notes. So one run is made for each range of lengths
+/// whose runs have the same trace. One more run is made for the least length whose run leaks or panics, if there is such a length.
 pub fn lengths<P: Progress>(
     alloc: Global,
     script: &Script,
@@ -66,14 +66,15 @@ pub fn lengths<P: Progress>(
     found
 }
 
-/// Makes the table alone, without any report of progress. `steps` bounds the steps of all runs together: returns `None` if they would take
-/// more. No clause says that `None` is returned in no other case.
-pub fn lengths_within(
+/// Makes only the table. `steps` bounds the steps of all runs together: returns `None` if the runs would take more steps. The contract
+/// doesn't exclude `None` in other cases. `progress` is notified of each run.
+pub fn lengths_within<P: Progress>(
     alloc: Global,
     script: &Script,
     budget: u32,
     shape: Shape,
     steps: u32,
+    progress: &mut P,
 ) -> Result<Option<LengthTable>, RunFault>
     requires script { IsTrue (is_script script.now) }
     requires least { 1 ≤ budget }
@@ -83,7 +84,10 @@ pub fn lengths_within(
     ensures shape { (result ≡ Err RunFault.BadShape) ↔ (is_shape shape ≡ false) }
 {
     let mut runs = HeapRuns::new(alloc, Some(steps));
-    find_table(&mut runs, script, budget, shape, &mut Silent)
+    progress.begin_lengths();
+    let found = find_table(&mut runs, script, budget, shape, progress);
+    progress.end();
+    found
 }
 
 /// Makes the table of all lengths, and finds what it shows: the least length whose run leaks or panics, and whether a run is cut.
@@ -107,12 +111,12 @@ fn find_lengths<P: Progress>(
             is_cut: has_cut(&table),
             table,
         }),
-        // `find_table` returns `None` only if the steps are bounded, and here they aren't.
+        // `find_table` returns `None` only if the steps are bounded, and these steps aren't.
         None => unreachable!(),
     }
 }
 
-/// The least length whose run leaks or panics, by this table, and the result of that run; `None` if there is no such length.
+/// The least length whose run leaks or panics according to this table, and the result of this run; `None` if there is no such length.
 fn find_bad(
     alloc: Global,
     script: &Script,
@@ -180,7 +184,8 @@ fn find_table<P: Progress>(
     let mut next = CEILING + 1;
     while next > 0 {
         progress.begin_length(next - 1);
-        let Some(from) = put_lengths_below(runs, &mut table, script, budget, shape, next)? else {
+        let below = put_lengths_below(runs, &mut table, script, budget, shape, next, progress)?;
+        let Some(from) = below else {
             return Ok(None);
         };
         next = from;
@@ -188,15 +193,16 @@ fn find_table<P: Progress>(
     Ok(Some(table.into_table()))
 }
 
-/// Makes the run in a heap that is one byte shorter than `next`, and puts the range of the lengths below `next` for which this run answers
-/// before the other ranges. Returns the least length of the new range, in bytes; `None` if the run takes more steps than are left.
-fn put_lengths_below(
+/// Makes the run in a heap that is one byte shorter than `next`. This run gives the result for a range of lengths below `next`. Puts
+/// this range before the others, and returns its least length, in bytes; `None` if the run takes more steps than are left.
+fn put_lengths_below<P: Progress>(
     runs: &mut HeapRuns,
     table: &mut TableSoFar,
     script: &Script,
     budget: u32,
     shape: Shape,
     next: u32,
+    progress: &mut P,
 ) -> Result<Option<u32>, RunFault>
     requires script { IsTrue (is_script script.now) }
     requires some { 1 ≤ budget }
@@ -212,7 +218,7 @@ fn put_lengths_below(
     ensures whole { runs.old.steps_left ≡ None → IfOk result (λ found. found ≢ None) }
     ensures shape { (result ≡ Err RunFault.BadShape) ↔ (is_shape shape ≡ false) }
 {
-    let Some(run_result) = runs.run(script, budget, shape, next - 1)? else {
+    let Some(run_result) = runs.run(script, budget, shape, next - 1, progress)? else {
         return Ok(None);
     };
     let from = highest_end(&run_result.trace);

@@ -13,21 +13,22 @@ use wb_basics::limits::LARGEST_BUDGET;
 use wb_basics::memory::NoMemory;
 use wb_heap_model::heap::{Rule, Shape};
 use wb_machine::{Finished, Heap, Machine, RunFault, Turn};
+use wb_meaning::progress::StepProgress;
 use wb_meaning::run::RunResult;
 use wb_tree::script::Script;
 
-/// What the runs that are made one after another share.
+/// What runs that are made one after another share.
 #[derive(Drop)]
 pub(crate) struct HeapRuns {
     pub(crate) alloc: Global,
-    /// The heap of the run before, whose memory the next run takes over.
+    /// The heap of the previous run; the next run takes over its memory.
     pub(crate) spare: Option<Heap>,
     /// How many steps the runs still to be made may take together; `None` if there is no bound.
     pub(crate) steps_left: Option<u32>,
 }
 
 impl HeapRuns {
-    /// Before the first run.
+    /// No run has been made yet.
     pub(crate) fn new(alloc: Global, steps_left: Option<u32>) -> HeapRuns
         ensures { result.steps_left ≡ steps_left }
     {
@@ -38,13 +39,15 @@ impl HeapRuns {
         }
     }
 
-    /// Makes the run in a heap of this length, in bytes; returns `None` if it takes more steps than are left.
-    pub(crate) fn run(
+    /// Makes the run in a heap of this length, in bytes. Returns `None` if the run takes more steps than are left. `progress` is notified of
+    /// the steps taken, unless the steps are bounded.
+    pub(crate) fn run<P: StepProgress>(
         &mut self,
         script: &Script,
         budget: u32,
         shape: Shape,
         length: u32,
+        progress: &mut P,
     ) -> Result<Option<RunResult>, RunFault>
         requires script { IsTrue (is_script script.now) }
         requires least { 1 ≤ budget }
@@ -59,7 +62,7 @@ impl HeapRuns {
     {
         let start = Machine::new(self.alloc, script, Rule::Limit(length), budget, shape)?;
         let machine = start.try_copy_over(self.spare.take())?;
-        match finish_within(machine, self.steps_left)? {
+        match finish_within(machine, self.steps_left, progress)? {
             Some(Finished { result, heap }) => {
                 self.spare = Some(heap);
                 self.steps_left = steps_after(self.steps_left, result.steps);
@@ -70,7 +73,7 @@ impl HeapRuns {
     }
 }
 
-/// How many steps are left after a run that took `taken` steps, if `left` steps were left before it; `None` if there is no bound.
+/// How many steps are left after a run that took `taken` steps, if `left` steps were left before this run; `None` if there is no bound.
 fn steps_after(left: Option<u32>, taken: u32) -> Option<u32>
     ensures { result ≡ steps_after taken left }
 {
@@ -80,8 +83,12 @@ fn steps_after(left: Option<u32>, taken: u32) -> Option<u32>
     }
 }
 
-/// Finishes the run of the machine, and returns what the machine leaves; `None` if there is a bound and the run takes more steps.
-fn finish_within(machine: Machine, left: Option<u32>) -> Result<Option<Finished>, NoMemory>
+/// Finishes the run of the machine, and returns what the machine leaves; `None` if there is a bound and the run takes more steps than that.
+fn finish_within<P: StepProgress>(
+    machine: Machine,
+    left: Option<u32>,
+    progress: &mut P,
+) -> Result<Option<Finished>, NoMemory>
     requires lines { machine.keeps_rises ≡ false }
     ensures ran { IfOk result (λ found. IfSome found (λ finished. finished.result
         ≡ (whole_run_of machine.entry).result)) }
@@ -89,7 +96,7 @@ fn finish_within(machine: Machine, left: Option<u32>) -> Result<Option<Finished>
 {
     match left {
         Some(steps) => finish_within_steps(machine, steps),
-        None => Ok(Some(machine.finish()?)),
+        None => Ok(Some(machine.finish_reporting(progress)?)),
     }
 }
 
@@ -101,7 +108,7 @@ fn finish_within_steps(mut machine: Machine, steps: u32) -> Result<Option<Finish
     ensures within { IfOk result (λ found. IfSome found (λ finished.
         finished.result.steps ≤ steps)) }
 {
-    // The first machine turn counts no step, and neither does one that cuts the run at its budget, so there may be two machine turns more
+    // The first machine turn isn't a step, and a turn that cuts the run at its budget isn't a step, so there may be two more machine turns
     // than steps.
     for _turn in 0..u64::from(steps) + 2 {
         if machine.step()? == Turn::Ended {

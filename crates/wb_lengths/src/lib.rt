@@ -1,4 +1,4 @@
-//! How a script's runs end in heaps of every length, and the least length whose run shows a panic or a leak.
+//! How a script's runs end in heaps of every length, and the least length whose run leaks or panics.
 #![tactic(auto)]
 
 pub mod all_lengths;

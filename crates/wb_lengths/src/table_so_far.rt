@@ -11,8 +11,8 @@ use wb_basics::memory::NoMemory;
 use wb_runs::lengths::{LengthRange, LengthTable};
 use wb_runs::run_end::RunEnd;
 
-/// The last ranges of a table, those found so far. The `Vec` holds them in reverse order, so the first range is its last element; contracts
-/// see the ranges in the order of the table.
+/// The last ranges of a table: the ranges found so far. The `Vec` holds them in reverse order, so its last element is the first range. In
+/// contracts, the ranges are in the order of the table.
 #[derive(Drop)]
 pub(crate) struct TableSoFar {
     ranges: Vec<LengthRange>,
@@ -37,8 +37,8 @@ impl TableSoFar {
         }
     }
 
-    /// Puts a range before the others. If its runs end as those of the next range do, the two ranges become one. On `Err` memory ran out,
-    /// and the table is no longer right.
+    /// Puts a range before the others. If its runs end like the runs of the next range, the two ranges become one. On `Err`, memory ran
+    /// out, and the table is no longer right.
     pub(crate) fn put_before(&mut self, from: u32, end: RunEnd) -> Result<(), NoMemory>
         ensures { OnOk result (IsPutBefore (range from end) self.old self.new) }
     {
@@ -61,7 +61,7 @@ impl TableSoFar {
         self.ranges.pop()
     }
 
-    /// Puts a range before the others, without joining it to the next.
+    /// Puts a range before the others, without joining it to the next range.
     fn put_first(&mut self, range: LengthRange) -> Result<(), NoMemory>
         ensures { OnOk result (self.new ≡ range ∷ self.old) }
     {

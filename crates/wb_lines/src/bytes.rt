@@ -1,4 +1,4 @@
-//! Bytes that can't be a script: there are too many, or one of them is a byte that no line holds.
+//! Bytes that can't be a script, because there are too many bytes or a byte that can't be in a line.
 
 ghost use Rattle.std.specs.Prelude.{◌≡◌, false};
 ghost use Rattle.std.specs.List.{list_any};
@@ -32,8 +32,8 @@ fn has_foreign(bytes: &[u8]) -> bool
     found
 }
 
-/// The number of the first line that holds a byte other than a tab, a carriage return or printable ASCII; `None` if no line does. Lines
-/// count from 1.
+/// The number of the first line that holds a byte other than a tab, a carriage return or printable ASCII; `None` if no line holds such a
+/// byte. Lines count from 1.
 pub fn first_foreign_line(bytes: &[u8]) -> Option<u32>
     requires { is_too_long bytes.now ≡ false }
     ensures { result ≡ first_foreign_line bytes.now }

@@ -13,7 +13,7 @@ use wb_tree::script_lines::{
     BodyKind, Form, ItemKind, LineKind, LocalKind, Operand, ParameterType,
 };
 
-/// Which of a class, a procedure and an operation a line of this kind begins; `None` if it begins none of these.
+/// What a line of this kind begins: a class, a procedure or an operation; `None` if it begins none of these.
 fn item_kind_of(line_kind: LineKind) -> Option<ItemKind>
     ensures { result ≡ item_kind_of line_kind }
 {
@@ -25,7 +25,7 @@ fn item_kind_of(line_kind: LineKind) -> Option<ItemKind>
     }
 }
 
-/// Which of a class, a procedure and an operation a line begins; `None` if it begins none of these.
+/// What a line begins: a class, a procedure or an operation; `None` if it begins none of these.
 pub fn item_kind_in(form: &Form<&[u8]>) -> Option<ItemKind>
     ensures { result ≡ item_kind_in (bytes_of_form form.now) }
 {
@@ -35,7 +35,8 @@ pub fn item_kind_in(form: &Form<&[u8]>) -> Option<ItemKind>
     }
 }
 
-/// The name that is the first operand of a line; `None` if the first operand is no name. If the line declares a name, it is this one.
+/// The name that is the first operand of a line; `None` if the first operand is no name. If the line declares a name, this is the declared
+/// name.
 pub fn first_name<'a>(form: &Form<&'a [u8]>) -> Option<&'a [u8]>
     ensures { option_to_list (option_map bytes_of_text result)
         ≡ first_name (bytes_of_form form.now) }
@@ -59,7 +60,7 @@ fn second_name<'a>(operands: &[Operand<&'a [u8]>]) -> Option<&'a [u8]>
     }
 }
 
-/// What is held by the local that a line of this kind, with these operands, declares; `None` if such a line declares no local.
+/// For a line of this kind with these operands, what the local that it declares holds; `None` if such a line declares no local.
 fn local_kind_of<'a>(
     line_kind: LineKind,
     operands: &[Operand<&'a [u8]>],
@@ -77,8 +78,8 @@ fn local_kind_of<'a>(
     }
 }
 
-/// What is held by the local that a line declares; `None` if the line declares no local. Parameters, which the first line of a body
-/// declares, don't count here.
+/// What the local that a line declares holds; `None` if the line declares no local. Parameters, which the first line of a body declares,
+/// don't count here.
 pub fn local_kind_in<'a>(form: &Form<&'a [u8]>) -> Option<LocalKind<&'a [u8]>>
     ensures { option_map bytes_of_kind result ≡ local_kind_in (bytes_of_form form.now) }
 {
@@ -88,7 +89,7 @@ pub fn local_kind_in<'a>(form: &Form<&'a [u8]>) -> Option<LocalKind<&'a [u8]>>
     }
 }
 
-/// What the local of a parameter holds, by what the parameter takes.
+/// What a parameter's local holds if the parameter takes this.
 pub fn kind_of_parameter<'a>(parameter_type: ParameterType<&'a [u8]>) -> LocalKind<&'a [u8]>
     ensures { bytes_of_kind result
         ≡ kind_of_parameter (renamed_parameter_type bytes_of_text parameter_type.entry) }

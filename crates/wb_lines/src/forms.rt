@@ -106,7 +106,7 @@ fn keyword_as<'a>(keyword: Keyword, word: &[u8]) -> Option<Operand<&'a [u8]>>
     }
 }
 
-/// A word as an operand, read as a word of this kind; `None` if it isn't of this kind.
+/// A word as an operand, read as a word of this kind; `None` if the word isn't of this kind.
 fn operand_as<'a>(kind: WordKind, word: &'a [u8]) -> Option<Operand<&'a [u8]>>
     ensures { option_map bytes_of_operand result ≡ operand_as kind word.now }
 {
@@ -129,7 +129,7 @@ fn operand_as<'a>(kind: WordKind, word: &'a [u8]) -> Option<Operand<&'a [u8]>>
     }
 }
 
-/// A word as an operand, read as a word of the first of these kinds that it is of; `None` if it is of none of them.
+/// A word as an operand, read as a word of the first of these kinds that fits the word; `None` if no kind fits.
 fn operand_among<'a>(kinds: &[WordKind], word: &'a [u8]) -> Option<Operand<&'a [u8]>>
     ensures { option_map bytes_of_operand result ≡ operand_among kinds.now word.now }
 {
@@ -142,15 +142,15 @@ fn operand_among<'a>(kinds: &[WordKind], word: &'a [u8]) -> Option<Operand<&'a [
     None
 }
 
-/// A word as an operand in this operand place; `None` if the word isn't grammatical there.
+/// A word as an operand in this operand place; `None` if the word isn't grammatical in this place.
 pub fn operand_of<'a>(operand_place: OperandPlace, word: &'a [u8]) -> Option<Operand<&'a [u8]>>
     ensures { option_map bytes_of_operand result ≡ operand_of operand_place word.now }
 {
     operand_among(word_kinds(operand_place), word)
 }
 
-/// A word as an operand, by its index among the words after the first word of the line; `None` if there is no operand place with this
-/// index, or the word isn't grammatical there.
+/// A word as an operand, by its index among the words after the first word of the line. The result is `None` if there is no operand place
+/// with this index, or the word isn't grammatical in that place.
 fn operand_at<'a>(
     operand_places: OperandPlaces,
     index: usize,
@@ -168,8 +168,8 @@ fn operand_at<'a>(
     }
 }
 
-/// The words after the first word of a line, as operands in these places; `None` if they don't fit. Memory is asked for only if the places
-/// admit this number of words.
+/// Reads the words after the first word of a line as operands, each in its operand place. `None` if there are too few or too many words, or
+/// if a word doesn't fit its place. Memory is asked for only if the places admit this number of words.
 fn operands_of<'a>(
     alloc: Global,
     operand_places: OperandPlaces,
@@ -195,8 +195,8 @@ fn operands_of<'a>(
     Ok(Some(found))
 }
 
-/// The operands of a line of this kind, by its first word and the words after it; `None` if the first word isn't the text of the line kind,
-/// or the other words don't fit.
+/// The operands of a line of this kind, from its first word and the words after it. The result is `None` if the first word isn't the text
+/// of the line kind, or the other words don't fit.
 fn operands_if<'a>(
     alloc: Global,
     line_kind: LineKind,
@@ -214,7 +214,7 @@ fn operands_if<'a>(
     }
 }
 
-/// The form of a line by the first of these line kinds that fits its first word and the words after it; `Unknown` if none of them fits.
+/// The form of a line, by the first of these line kinds that fits its words; `Unknown` if no line kind fits.
 fn form_in<'a>(
     alloc: Global,
     line_kinds: &[LineKind],
@@ -233,7 +233,8 @@ fn form_in<'a>(
     Ok(Form::Unknown)
 }
 
-/// The form of a line that is no comment, by the tables. Only line kinds whose text begins with the first byte of the first word are tried.
+/// The form of a line that is no comment, by the tables of the language. Only line kinds whose text begins with the first byte of the
+/// line's first word are tried.
 fn form_by_tables<'a>(
     alloc: Global,
     first: &[u8],
@@ -270,8 +271,8 @@ pub fn form_of<'a>(alloc: Global, words: &[&'a [u8]]) -> Result<Form<&'a [u8]>, 
     }
 }
 
-/// The form of a line, which is given without its line feed. `words` is a buffer that is used for one line after another: it is cleared and
-/// then filled with the words of this line.
+/// The form of a line, which is given without its line feed. `words` is a buffer that is used for one line after another: the function
+/// clears it, and then fills it with the words of this line.
 fn line_form<'a>(
     alloc: Global,
     words: &mut Vec<&'a [u8]>,
@@ -296,8 +297,8 @@ fn add_form<'a>(
     add(forms, line_form(alloc, words, line)?)
 }
 
-/// The forms of lines, one for each line. The function is never inlined, since the values that it uses for each line just fit into the
-/// registers.
+/// The forms of lines, one form for each line. The function is never inlined, because the values that it uses for each line only just fit
+/// into the registers.
 #[inline(never)]
 pub fn forms<'a>(alloc: Global, lines: &[&'a [u8]]) -> Result<Vec<Form<&'a [u8]>>, AllocError>
     ensures { IfOk result (λ found.

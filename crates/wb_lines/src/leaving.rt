@@ -22,7 +22,7 @@ fn is_loud(line_kind: LineKind) -> bool
     !(is_outside(line_kind) || is_quiet(line_kind))
 }
 
-/// Whether a line of this kind counts as one that may leave, in a body of this kind; false for bodies that are allowed to leave.
+/// Whether a line of this kind counts as a line that may leave, in a body of this kind; `false` for bodies that are allowed to leave.
 pub fn may_leave_in(body: BodyKind, line_kind: LineKind) -> bool
     ensures { result ≡ may_leave_in body line_kind }
 {

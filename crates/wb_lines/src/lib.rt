@@ -1,5 +1,5 @@
-//! The lines of a script: which bytes they may hold, how bytes are cut into lines and words, what a word is, the tables of the language,
-//! the one form that each line has by these tables, and what a form declares.
+//! The lines of a script: which bytes they may hold, how bytes are cut into lines and words, and what a word is. Also the tables of the
+//! language, the one form that these tables give each line, and what a form declares.
 #![tactic(auto)]
 
 pub mod bytes;

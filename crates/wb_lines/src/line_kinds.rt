@@ -1,4 +1,4 @@
-//! The tables of the language that have a row for each line kind. What a line means is not said here.
+//! The tables of the language that have a row for each line kind. This file doesn't say what a line means.
 
 ghost use Rattle.std.specs.Prelude.{◌≡◌};
 ghost use Rattle.wb_tree.specs.QuietLines.{is_quiet};
@@ -311,7 +311,7 @@ pub fn operand_places_of(line_kind: LineKind) -> &'static [OperandPlace]
     }
 }
 
-/// The operand place of any number of further words; `None` if there may be no further words.
+/// The operand place of any further words, however many they are; `None` if there may be no further words.
 pub fn rest_of(line_kind: LineKind) -> Option<OperandPlace>
     ensures { result ≡ rest_of line_kind }
 {

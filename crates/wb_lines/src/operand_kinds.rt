@@ -70,7 +70,7 @@ pub fn takes(operand_place: OperandPlace, operand_kind: OperandKind) -> bool
     }
 }
 
-/// The kind of an operand that is a name, by what the name stands for.
+/// The kind of an operand that is a name, depending on what the name stands for.
 fn operand_kind_of_name(referent: Referent) -> OperandKind
     ensures { result ≡ operand_kind_of_name referent }
 {
@@ -89,7 +89,7 @@ fn operand_kind_of_name(referent: Referent) -> OperandKind
     }
 }
 
-/// The kind of an operand that is a field, by what the name of the field stands for.
+/// The kind of an operand that is a field, depending on what the name of the field stands for.
 fn operand_kind_of_field(field: Referent) -> OperandKind
     ensures { result ≡ operand_kind_of_field field }
 {
@@ -99,7 +99,8 @@ fn operand_kind_of_field(field: Referent) -> OperandKind
     }
 }
 
-/// The kind of an operand that declares a parameter, by what the parameter takes: `Nothing` if its class is not a class.
+/// The kind of an operand that declares a parameter, depending on what the parameter takes: `Nothing` if the name after the colon isn't the
+/// name of a class.
 fn operand_kind_of_type(parameter_type: ParameterType<Referent>) -> OperandKind
     ensures { result ≡ operand_kind_of_type parameter_type }
 {
@@ -110,7 +111,7 @@ fn operand_kind_of_type(parameter_type: ParameterType<Referent>) -> OperandKind
     }
 }
 
-/// The kind of an operand, by what its names refer to.
+/// The kind of an operand, depending on what its names refer to.
 pub fn operand_kind_of(operand: &Operand<Referent>) -> OperandKind
     ensures { result ≡ operand_kind_of operand.now }
 {

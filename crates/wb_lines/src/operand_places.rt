@@ -1,4 +1,4 @@
-//! The words after the first word of a line: which operand place each of them has, and which words are grammatical in an operand place.
+//! The words after the first word of a line: which operand place each word has, and which words are grammatical in an operand place.
 
 ghost use Rattle.std.specs.Prelude.{◌≡◌, ◌<◌, ℕ, length, nat_eq, slice_get};
 ghost use Rattle.wb_language.specs.LineKinds.{operand_places_with, operand_places_for, word_kinds};
@@ -6,8 +6,8 @@ ghost use Rattle.wb_language.specs.LineKinds.{operand_places_with, operand_place
 use crate::line_kinds::{operand_places_of, rest_of};
 use wb_tree::script_lines::{Keyword, LineKind, OperandPlace, WordKind};
 
-/// The operand places of a line kind: the `fixed` ones, which every line has, and the place of any number of further words, if there may be
-/// some.
+/// The operand places of a line kind. Every line of the kind has the `fixed` places, and `rest` is the place of any further words, if there
+/// may be any.
 #[derive(Clone, Copy)]
 pub struct OperandPlaces {
     pub fixed: &'static [OperandPlace],
@@ -50,7 +50,7 @@ impl OperandPlaces {
     }
 }
 
-/// The kinds of words that are grammatical in an operand place. A word counts as one of the first kind that admits it.
+/// The kinds of words that are grammatical in an operand place. A word counts as a word of the first kind that admits it.
 pub(crate) fn word_kinds(operand_place: OperandPlace) -> &'static [WordKind]
     ensures { result.now ≡ word_kinds operand_place }
 {

@@ -16,7 +16,8 @@ pub fn is_blank(byte: u8) -> bool
     matches!(byte, b' ' | b'\t' | b'\r')
 }
 
-/// The usual length of a line, in bytes. A list of lines begins with room for as many lines of this length as the bytes would make.
+/// The usual length of a line, in bytes. A list of lines begins with room for as many lines as the bytes would make if all lines had this
+/// length.
 const USUAL_LENGTH: usize = 16;
 
 /// What bytes are cut into.
@@ -43,7 +44,7 @@ fn quoted_after(quoted: bool, byte: u8) -> bool
     if byte == b'"' { !quoted } else { quoted }
 }
 
-/// Returns the first piece of some bytes, and the bytes after the byte that ends the piece; none are left if no byte ends it.
+/// Returns the first piece of some bytes, and the bytes after the byte that ends the piece. If no byte ends the piece, no bytes are left.
 fn first_segment<'a>(cut: Cut, bytes: &'a [u8]) -> (&'a [u8], &'a [u8])
     requires { bytes.now ≢ [] }
     ensures pieces { pieces (ends_of cut) bytes.now
@@ -52,7 +53,7 @@ fn first_segment<'a>(cut: Cut, bytes: &'a [u8]) -> (&'a [u8], &'a [u8])
 {
     let mut quoted = false;
     for (index, byte) in bytes.iter().enumerate() {
-        // No byte above `"` ends a line or a word, or is a quote; most bytes are above it.
+        // Only `"` and bytes below it can end a line or a word, or be a quote; most bytes are above it.
         if *byte <= b'"' {
             if cut.ends_at(quoted, *byte) {
                 return (&bytes[..index], &bytes[index + 1..]);

@@ -91,7 +91,7 @@ pub fn used_name<'a>(word: &'a [u8]) -> Option<&'a [u8]>
     if is_name(word) { Some(word) } else { None }
 }
 
-/// How many bytes of a word come before the first `byte` in it; the length of the word if it has no such byte.
+/// How many bytes of a word come before the first `byte` in it; the length of the word if it doesn't contain `byte`.
 fn length_before(byte: u8, word: &[u8]) -> usize
     ensures length { result ≡ length_before byte word.now }
     ensures within { result ≤ length word.now }
@@ -104,14 +104,14 @@ fn length_before(byte: u8, word: &[u8]) -> usize
     word.len()
 }
 
-/// The part of a word before the first `byte` in it; the whole word if it has no such byte.
+/// The part of a word before the first `byte` in it; the whole word if it doesn't contain `byte`.
 pub fn before_first<'a>(byte: u8, word: &'a [u8]) -> &'a [u8]
     ensures { result.now ≡ before_first byte word.now }
 {
     &word[..length_before(byte, word)]
 }
 
-/// The part of a word after the first `byte` in it; empty if it has no such byte.
+/// The part of a word after the first `byte` in it; empty if the word doesn't contain `byte`.
 pub fn after_first_of<'a>(byte: u8, word: &'a [u8]) -> &'a [u8]
     ensures { result.now ≡ after_first_of byte word.now }
 {
@@ -187,8 +187,8 @@ pub fn field_name<'a>(word: &'a [u8]) -> Option<&'a [u8]>
     used_name(after_first_of(b'.', word))
 }
 
-/// What a parameter takes, by the part of its word after the colon: any name but `ptr` and `int` is the name of a class. `None` if that
-/// part is no name.
+/// What a parameter takes, from the part of its word after the colon; `None` if this part is no name. Any name except `ptr` and `int` is
+/// the name of a class.
 fn parameter_type_after_colon<'a>(word: &'a [u8]) -> Option<ParameterType<&'a [u8]>>
     ensures { option_map (renamed_parameter_type bytes_of_text) result
         ≡ parameter_type_after_colon word.now }
@@ -205,14 +205,14 @@ fn parameter_type_after_colon<'a>(word: &'a [u8]) -> Option<ParameterType<&'a [u
     }
 }
 
-/// The name of the parameter that a word declares: the part before the colon. `None` if that part can't be declared.
+/// The name of the parameter that a word declares: the part before the colon. The result is `None` if this part can't be declared.
 pub fn parameter_name<'a>(word: &'a [u8]) -> Option<&'a [u8]>
     ensures { option_copied result ≡ parameter_name word.now }
 {
     declared_name(before_first(b':', word))
 }
 
-/// What is taken by the parameter that a word declares; `None` if the part after the colon is no name.
+/// What the parameter that a word declares takes; `None` if the part after the colon is no name.
 pub fn parameter_type_of_word<'a>(word: &'a [u8]) -> Option<ParameterType<&'a [u8]>>
     ensures { option_map (renamed_parameter_type bytes_of_text) result
         ≡ parameter_type_of_word word.now }

@@ -1,4 +1,5 @@
-//! Whether two runs go on alike, that is, are the same except for allocation numbers. What is compared is in the files below, by subject.
+//! Whether two runs go on alike, that is, are the same from here on except for allocation numbers. The files in `alike` compare parts of
+//! the two runs.
 
 ghost use Rattle.std.specs.Prelude.{◌≡◌, false, true};
 ghost use Rattle.wb_machine.specs.Alike.{GoesOnLike};
@@ -13,7 +14,7 @@ use crate::machine::Machine;
 use names::Names;
 
 impl<'a> Machine<'a> {
-    /// Whether both runs have begun and have the same budget, and neither machine has answered `NoMemory`.
+    /// Whether both runs have begun and have the same budget, and neither machine has returned `NoMemory`.
     fn is_comparable(&self, other: &Machine) -> bool
         ensures here { result ≡ true → (self.now.failed ≡ false) × (self.now.begun ≡ true) }
         ensures there { result ≡ true → (other.now.failed ≡ false) × (other.now.begun ≡ true) }
@@ -26,21 +27,22 @@ impl<'a> Machine<'a> {
             && self.budget == other.budget
     }
 
-    /// Whether another run has equally many pieces pending, and its next statement is on the same line of the script. This is so of any two
-    /// runs that go on alike, and it is quickly found out.
+    /// Whether two runs have equally many pending pieces of work, and either both next steps begin a statement on the same script line, or
+    /// neither begins a statement. Any two runs that go on alike pass this quick test.
     pub fn is_at_line_of(&self, other: &Machine) -> bool {
         self.control.is_at_line_of(&other.control)
     }
 
-    /// Whether this run goes on like another run of the same script: from here on both are the same except for allocation numbers. Then,
-    /// unless the budget cuts one of them, this run comes to what the other comes to, except for allocation numbers. That holds under any
-    /// two rules, one for each run, that say the same of the attempts still to be made, and each of which says of the attempts made so far
-    /// what the run's own rule says.
+    /// Whether this run goes on like another run of the same script: from here on, both are the same except for allocation numbers. Two
+    /// runs that go on alike come to the same result, except for allocation numbers, if two conditions hold: the rules of the two runs
+    /// treat all later attempts in the same way, and the budget cuts neither run. Each run may get a new rule before it goes on, but the
+    /// new rule must treat the attempts made so far as the run's old rule did.
     ///
-    /// `since` is an attempt up to which both were one run. Allocation numbers up to `since` stand for themselves, and each later one
-    /// stands for one of the other run; if more than 64 later ones occur, the answer is `false`. For another `since`, and for runs that are
-    /// over, the answer may be `false` where `true` would be right, but never `true` where `false` would be. The cells are compared last,
-    /// and the comparison ends at the first difference. Asks for no memory.
+    /// The two runs were one run up to attempt `since`. Allocation numbers up to `since` must be equal in both runs, and each later number
+    /// of one run is paired with a later number of the other run. If more than 64 pairs are needed, the function returns `false`. If the
+    /// two runs weren't one run up to attempt `since`, or a run is over, the function may return `false` for runs that go on alike. It
+    /// never returns `true` for runs that don't go on alike. The function makes quick tests first, stops at the first difference, and asks
+    /// for no memory.
     pub fn goes_on_like(&self, other: &Machine, since: u32) -> bool
         requires script { other.now.script ≡ self.now.script }
         ensures { result ≡ true → GoesOnLike self.now other.now }

@@ -1,4 +1,4 @@
-//! What the parameters of a body get from its caller.
+//! The values that the parameters of a body get from the body's caller.
 
 ghost use Rattle.std.specs.Prelude.{◌≡◌, ℕ, ◌≤◌, List, ◌++◌, map, drop, vec_len, OnOk};
 ghost use Rattle.wb_heap_model.specs.Texts.{Buffer};
@@ -11,7 +11,7 @@ use std::alloc::AllocError;
 use wb_heap_model::heap::Ptr;
 use wb_tree::script::{Argument, Number};
 
-/// What the parameters of a body get.
+/// What the parameters of a body get their values from.
 #[derive(Clone, Copy)]
 pub enum CallArguments<'b> {
     /// The arguments of a call, one for each parameter.
@@ -20,7 +20,7 @@ pub enum CallArguments<'b> {
     Item(Ptr),
 }
 
-/// The value of a number operand, over the locals of a frame; 0 if the operand names no number.
+/// The value that a number operand has in a frame; 0 if the operand names no number.
 #[inline(always)]
 pub fn number_over(frame: &[Stored], operand: Number) -> i32
     ensures { (buffers : List Buffer) →
@@ -35,7 +35,7 @@ pub fn number_over(frame: &[Stored], operand: Number) -> i32
     }
 }
 
-/// The value that a parameter gets for an argument, over the caller's locals.
+/// The value that a parameter gets for an argument. The argument is read in the caller's frame.
 fn argument_slot(context: ReadContext, frame: &[Stored], argument: Argument) -> Slot
     ensures { (buffers : List Buffer) →
         value_of result ≡ passed_over context.entry.script.now context.entry.heap.now
@@ -47,7 +47,7 @@ fn argument_slot(context: ReadContext, frame: &[Stored], argument: Argument) -> 
     }
 }
 
-/// Adds the values of the arguments after the caller's locals, from left to right. The caller's locals begin at `base`.
+/// Appends the values of the arguments to `slots`, from left to right. The caller's locals begin at `base`.
 fn pass(
     slots: &mut Vec<Stored>,
     base: usize,
@@ -72,7 +72,7 @@ fn pass(
     Ok(())
 }
 
-/// Adds what a body's parameters get after the caller's locals, which begin at `base`.
+/// Appends to `slots` the values that a body's parameters get. The caller's locals begin at `base`.
 pub fn hand(
     slots: &mut Vec<Stored>,
     base: usize,

@@ -1,9 +1,9 @@
-//! Whether a statement that is about to begin asks for an attempt. Nothing here changes a state.
+//! Whether a statement that is about to begin asks for an attempt. No function in this file changes a state.
 
 ghost use Rattle.std.specs.Prelude.{◌≡◌, ◌≤◌};
 ghost use Rattle.wb_meaning.specs.Operands.{within};
-ghost use Rattle.wb_heap_model.specs.Row.{cell_at, cell_length};
-ghost use Rattle.wb_basics.specs.declared.limits.TheConstants.{LARGEST_REQUEST, MOST_UNITS, CEILING};
+ghost use Rattle.wb_heap_model.specs.Row.{cell_at};
+ghost use Rattle.wb_basics.specs.declared.limits.TheConstants.{LARGEST_REQUEST, MOST_UNITS};
 ghost use Rattle.wb_tree.specs.declared.script.Statement.TheViews.{out-Statement};
 ghost use Rattle.wb_machine.specs.Effects.{pointer_read, number_read};
 ghost use Rattle.wb_machine.specs.Asks.{cell_asks, text_asks, realloc_asks, realloc_text_asks, push_asks, effect_asks};
@@ -14,16 +14,9 @@ use crate::state::State;
 use crate::text_operands::is_text;
 use crate::words::is_raw;
 use wb_basics::limits::{LARGEST_REQUEST, MOST_UNITS};
+use wb_debug::cell_length;
 use wb_heap_model::heap::Ptr;
 use wb_tree::script::{Number, Pointer, Script, Statement};
-
-/// The length of the cell for a request of `bytes` bytes, in bytes.
-fn cell_length(bytes: u32) -> u32
-    requires { bytes ≤ CEILING }
-    ensures { result ≡ cell_length bytes }
-{
-    16 + 16 * bytes.div_ceil(16)
-}
 
 impl State {
     /// Whether a pointer names a Raw cell that must become longer to hold `bytes` bytes.
@@ -51,8 +44,8 @@ impl State {
         }
     }
 
-    /// Whether reallocating the source's cell to `bytes` bytes asks for an attempt. If the source is null, a new cell is allocated, which
-    /// asks for one too. A number of bytes that is out of range asks for none.
+    /// Whether reallocating the source's cell to `bytes` bytes asks for an attempt. If the source is null, reallocating allocates a new
+    /// cell and so asks for an attempt. If the number of bytes is out of range, no attempt is asked for.
     fn realloc_asks(&self, script: &Script, source: Pointer, bytes: Number) -> bool
         ensures { result ≡ realloc_asks self.now (pointer_read script.now self.now source)
             (within LARGEST_REQUEST (number_read self.now bytes)) }
@@ -76,7 +69,7 @@ impl State {
         }
     }
 
-    /// Whether a push asks for an attempt, which it does exactly if it fills the last slot: then the cleanup stack's cell must become
+    /// Whether a push asks for an attempt. A push does so exactly if it fills the last slot: then the cleanup stack's cell must become
     /// longer.
     fn push_asks(&self) -> bool
         ensures { result ≡ push_asks self.now }
@@ -87,7 +80,7 @@ impl State {
         }
     }
 
-    /// Whether a statement none of whose operands panics asks for an attempt if it is carried out now.
+    /// Whether a statement asks for an attempt if it is carried out now. The function doesn't test whether an operand panics.
     fn effect_asks(&self, script: &Script, statement: &Statement) -> bool
         ensures { result ≡ effect_asks script.now self.now (out-Statement statement.now) }
     {
@@ -110,7 +103,7 @@ impl State {
         }
     }
 
-    /// Whether a statement asks for an attempt if it begins now. A statement with an operand that panics asks for none.
+    /// Whether a statement asks for an attempt if it begins now. A statement with an operand that panics asks for no attempt.
     pub fn asks(&self, script: &Script, statement: &Statement) -> bool
         ensures { result ≡ statement_asks script.now self.now (out-Statement statement.now) }
     {

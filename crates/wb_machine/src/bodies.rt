@@ -1,4 +1,4 @@
-//! The bodies of a script. A body that the script doesn't have counts as a body without a line.
+//! The bodies of a script. A body that the script doesn't have counts as an empty body.
 
 ghost use Rattle.wb_tree.specs.Bodies.{class_at, no_body, operation_at};
 ghost use Rattle.std.specs.Prelude.{unwrap_or};
@@ -13,7 +13,7 @@ pub struct BodyContent<'a> {
     pub statements: &'a [StatementAt],
 }
 
-/// A body without a line.
+/// An empty body: it has no locals and no statements.
 fn no_content<'a>() -> BodyContent<'a>
     ensures { IsBody result no_body }
 {

@@ -14,7 +14,7 @@ use wb_basics::memory::NoMemory;
 use wb_tree::script::{Script, Statement};
 
 impl State {
-    /// Carries out a statement that runs no other, and returns how it ends.
+    /// Carries out a statement that runs no other statement, and returns how the statement ends.
     ///
     /// `floor` is how many items were on the cleanup stack at the entry of the innermost TRAP.
     #[inline(always)]
@@ -87,8 +87,9 @@ impl State {
         }
     }
 
-    /// Carries out a statement that asks for no memory, as `carry_out` does any other. In this function all these statements write how they
-    /// end to the same place. As arms of `carry_out` each kind would have a place of its own, and each step would have to clear them all.
+    /// Carries out a statement that asks for no memory, on behalf of `carry_out`. In this function, all these statements write how they end
+    /// to one location. As arms of `carry_out`, each would have a location of its own, and each step would have to clear all these
+    /// locations.
     #[inline(always)]
     fn carry_out_in_place(&mut self, script: &Script, floor: u32, first: &Statement) -> Ending
         requires script { IsTrue (is_script script.now) }

@@ -15,8 +15,8 @@ use wb_hbuf::sources::Edit;
 use wb_tree::script::{Script, Statement};
 
 impl State {
-    /// Carries out a statement on texts, as `carry_out` does any other. This is a function of its own, so that other statements don't pay
-    /// for the stack space of its operands.
+    /// Carries out a statement on texts, on behalf of `carry_out`. Statements on texts have a function of their own, so that other
+    /// statements don't pay for the stack space that texts need.
     #[inline(never)]
     pub fn carry_out_text(&mut self, script: &Script, first: &Statement) -> Result<Ending, NoMemory>
         requires script { IsTrue (is_script script.now) }

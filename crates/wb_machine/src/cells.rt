@@ -22,7 +22,7 @@ use wb_heap_model::heap::{Gave, KERR_NO_MEMORY, Kind, Panic, Ptr};
 use wb_meaning::run::Why;
 use wb_tree::script::{Number, Pointer, Refusal, Script};
 
-/// Whether a cell is the cleanup stack's.
+/// Whether a cell of this kind is the cell of a cleanup stack.
 fn is_cleanup(kind: Kind) -> bool
     ensures { result ≡ is_cleanup kind }
 {
@@ -35,9 +35,9 @@ fn is_cleanup(kind: Kind) -> bool
 impl State {
     /// Makes an attempt to get a cell for `bytes` bytes.
     ///
-    /// The heap chooses the place first. Then the script's setting decides, then the run's rule, and then the ceiling. An attempt whose
-    /// cell would end past the heap's ceiling isn't counted, and neither is one for which the workbench itself runs out of memory. Both
-    /// leave everything as it was.
+    /// The heap chooses the place first. Then the script's setting, the run's rule and the ceiling decide, in this order, whether the cell
+    /// is granted. If the ceiling alone rules the cell out, or the workbench itself runs out of memory, the attempt isn't counted and
+    /// nothing changes.
     pub fn attempt(&mut self, bytes: u32, kind: Kind) -> Result<Gave, NoMemory>
         requires bytes { bytes ≤ CEILING }
         requires text { kind ≡ Text → 1 ≤ bytes }
@@ -52,7 +52,7 @@ impl State {
         self.heap.attempt_alloc(bytes, kind)
     }
 
-    /// Reallocates a cell to `bytes` bytes. Making the cell longer is an attempt; making it shorter, or leaving its length, is none.
+    /// Reallocates a cell to `bytes` bytes. Making the cell longer is an attempt; making it shorter or keeping its length is no attempt.
     ///
     /// If the workbench itself runs out of memory, the attempt isn't counted, and nothing changes.
     fn attempt_again(&mut self, ptr: Ptr, bytes: u32) -> Result<Gave, NoMemory>
@@ -70,8 +70,8 @@ impl State {
         self.heap.attempt_realloc(ptr, bytes)
     }
 
-    /// Ends a statement whose attempt failed: the target gets null, or the statement leaves with `KErrNoMemory` and the target stays as it
-    /// was.
+    /// Ends a statement whose attempt failed. As `refusal` says, either the target gets null, or the statement leaves with `KErrNoMemory`
+    /// and the target keeps its value.
     #[inline(always)]
     fn refuse(&mut self, target: &Pointer, refusal: Refusal) -> Ending
         ensures { CarriesOut self.old (refused_effect self.old target.now refusal) result self.new }
@@ -85,8 +85,8 @@ impl State {
         }
     }
 
-    /// Ends a statement by what its attempt gave: the target gets a granted cell, a failure does what `refusal` says, and the ceiling cuts
-    /// the run.
+    /// Ends a statement after its attempt. The target gets a pointer to a granted cell, a failed attempt does what `refusal` says, and an
+    /// attempt whose cell would end past the ceiling cuts the run.
     #[inline(always)]
     pub fn give(&mut self, target: &Pointer, refusal: Refusal, gave: Gave) -> Ending
         ensures { CarriesOut self.old (given_effect self.old target.now refusal gave) result
@@ -102,7 +102,7 @@ impl State {
         }
     }
 
-    /// Allocates a cell for `bytes` bytes, which the target gets.
+    /// Allocates a cell for `bytes` bytes, and gives the target a pointer to the cell.
     #[inline(never)]
     pub fn alloc(
         &mut self,
@@ -124,7 +124,7 @@ impl State {
         Ok(self.give(target, refusal, gave))
     }
 
-    /// Reallocates a cell to `bytes` bytes, and gives the target its pointer.
+    /// Reallocates a cell to `bytes` bytes, and gives the target the cell's pointer.
     fn resize(
         &mut self,
         target: &Pointer,
@@ -148,7 +148,8 @@ impl State {
         Ok(self.give(target, refusal, gave))
     }
 
-    /// Reallocates the source's cell to `bytes` bytes, and gives the target its pointer. If the source is null, a new cell is allocated.
+    /// Reallocates the source's cell to `bytes` bytes, and gives the target the cell's pointer. If the source is null, a new cell is
+    /// allocated.
     #[inline(never)]
     pub fn realloc(
         &mut self,
@@ -207,8 +208,8 @@ impl State {
         }
     }
 
-    /// Frees the cell that a pointer names; for null there is nothing to do. Panics with USER 42 if the pointer names no live cell, or the
-    /// cleanup stack's.
+    /// Frees the cell that a pointer names; a null pointer frees nothing. Panics with USER 42 if the pointer names no live cell, or names
+    /// the cleanup stack's cell.
     pub fn release(&mut self, ptr: Ptr) -> Ending
         ensures { CarriesOut self.old (free_effect self.old ptr) result self.new }
     {

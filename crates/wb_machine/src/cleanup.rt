@@ -25,7 +25,7 @@ use wb_meaning::run::Why;
 use wb_tree::script::{Number, Pointer, Script};
 
 impl State {
-    /// Makes attempt 1, for the cleanup stack's cell. Returns whether it was granted.
+    /// Makes attempt 1, for the cleanup stack's cell. Returns whether the attempt was granted.
     pub fn start(&mut self) -> Result<bool, NoMemory>
         requires { self.old
             ≡ first_state (keeps_rises self.old.debug) self.old.debug.rule self.old.debug.shape }
@@ -51,7 +51,7 @@ impl State {
         }
     }
 
-    /// Takes off the newest item and returns it; `None` if there is none.
+    /// Takes the newest item off the cleanup stack and returns it; returns `None` if there is no item.
     pub fn take_newest(&mut self) -> Option<Item>
         ensures item { result ≡ newest self.old.items }
         ensures taken { self.new
@@ -85,8 +85,8 @@ impl State {
         }
     }
 
-    /// Pushes an item. If the attempt to make the cleanup stack's cell longer fails, the push leaves with `KErrNoMemory`, but the item is
-    /// on the stack.
+    /// Pushes an item. If the attempt to make the cleanup stack's cell longer fails, the push leaves with `KErrNoMemory`, but the item
+    /// stays on the stack.
     pub fn push_item(&mut self, item: Item) -> Result<Ending, NoMemory>
         requires stack { HasStack self.old }
         requires room { length self.old.items < self.old.slots }
@@ -106,7 +106,7 @@ impl State {
         }
     }
 
-    /// Pushes a pointer whose cell is to be freed.
+    /// Pushes a pointer as an item whose destruction frees the pointer's cell.
     #[inline(never)]
     pub fn push(&mut self, script: &Script, pointer: &Pointer) -> Result<Ending, NoMemory>
         requires stack { HasStack self.old }
@@ -123,7 +123,7 @@ impl State {
         self.push_item(Item::Free(self.pointer(script, *pointer)))
     }
 
-    /// Pushes a pointer to an object that is to be deleted.
+    /// Pushes a pointer as an item whose destruction deletes the pointer's object.
     #[inline(never)]
     pub fn push_object(&mut self, script: &Script, pointer: &Pointer) -> Result<Ending, NoMemory>
         requires stack { HasStack self.old }
@@ -140,7 +140,7 @@ impl State {
         self.push_item(Item::Delete(self.pointer(script, *pointer)))
     }
 
-    /// Pushes a pointer that an operation is to destroy.
+    /// Pushes a pointer as an item whose destruction calls an operation with the pointer.
     #[inline(never)]
     pub fn push_operation(
         &mut self,
@@ -162,8 +162,8 @@ impl State {
         self.push_item(Item::Call(self.pointer(script, *pointer), operation))
     }
 
-    /// Takes off the `count` newest items, if at least that many are above the `floor` oldest ones. Otherwise returns the panic, and
-    /// changes nothing.
+    /// Takes the `count` newest items off the cleanup stack. If fewer than `count` items are above the `floor` oldest items, the function
+    /// returns the panic and changes nothing.
     fn take_off(&mut self, floor: u32, count: u32) -> Result<(), Panic>
         requires { HasStack self.old }
         ensures refused { IfErr result (λ panic.
@@ -178,8 +178,8 @@ impl State {
         }
     }
 
-    /// Takes off the newest item, if it is above the `floor` oldest ones and holds this pointer. Otherwise returns the panic, and changes
-    /// nothing.
+    /// Takes the newest item off the cleanup stack. If no item is above the `floor` oldest items, or the newest item holds a different
+    /// pointer, the function returns the panic and changes nothing.
     fn take_expected(&mut self, floor: u32, ptr: Ptr) -> Result<(), Panic>
         requires { HasStack self.old }
         ensures refused { IfErr result (λ panic.
@@ -194,7 +194,8 @@ impl State {
         }
     }
 
-    /// Pops a number of items. They aren't destroyed: what becomes of them is the script's affair.
+    /// Pops the `count` newest items without destroying them. Panics if `count` is negative, or fewer than `count` items are above the
+    /// `floor` oldest items.
     pub fn pop(&mut self, floor: u32, count: &Number) -> Ending
         requires { HasStack self.old }
         ensures { CarriesOut self.old (pop_within self.old floor
@@ -209,7 +210,7 @@ impl State {
         }
     }
 
-    /// Pops the newest item, which must hold the operand's pointer.
+    /// Pops the newest item. Panics if no item is above the `floor` oldest items, or the newest item doesn't hold the operand's pointer.
     pub fn pop_check(&mut self, script: &Script, floor: u32, pointer: &Pointer) -> Ending
         requires { HasStack self.old }
         ensures { CarriesOut self.old (pop_check_effect self.old floor

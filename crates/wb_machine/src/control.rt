@@ -1,6 +1,6 @@
-//! What a run has still to do, as a stack of pending pieces, and the steps of the pieces. What the pieces act on is in `state`, how a
-//! statement begins in `frequent`, which pieces it adds in `heads` and `calls`, the steps that destroy in `destroying`, what becomes of
-//! pieces that are done in `unwinding`, and machine turns in `running`.
+//! What a run still has to do, as a stack of pending pieces of work, and the steps of the pieces. The pieces act on a `State`. The file
+//! `frequent` begins a statement, and `heads` and `calls` add the statement's pieces. The steps that destroy are in `destroying`. The file
+//! `unwinding` handles the pieces that are done, and `running` takes machine turns.
 
 ghost use Rattle.std.specs.Prelude.{IfOk, List, take, vec_len, ◌-◌, ◌≡◌, ◌+◌, ◌^◌, ◌<◌, ◌≤◌, ◌⊎◌, ◌++◌, ◌∷◌, [], ℕ};
 ghost use Rattle.std.specs.Prelude.{true, false, if◌then◌else◌, length, unwrap_or, max, IsTrue, OnOk};
@@ -45,7 +45,8 @@ use std::alloc::{AllocError, Global};
 use wb_basics::memory::NoMemory;
 use wb_tree::script::{Body, Script, Statement, StatementAt};
 
-/// The pending pieces, of which the last is on top, how the piece that was above them ended, and the statement begun last.
+/// The pending pieces of a run, with the last piece on top; also how the piece that was above these pieces ended, and which statement was
+/// begun last.
 #[derive(Drop)]
 pub struct Control<'a> {
     pieces: Vec<PendingPiece<'a>>,
@@ -54,7 +55,7 @@ pub struct Control<'a> {
     line: u32,
     /// The statement begun last.
     statement: Option<&'a Statement>,
-    /// How many bodies were running when that statement began.
+    /// How many bodies were running when the run last began a statement.
     depth: u32,
     /// What raises the next panic, if one comes.
     raiser: Raiser,
@@ -71,8 +72,8 @@ fn procedure_at(script: &Script, index: u16) -> &Body
     }
 }
 
-/// How many bodies run while this piece is on top; 0 if there is no piece. The kinds of piece without a `Context` are never on top when a
-/// run panics.
+/// How many bodies run while this piece is on top; 0 if there is no piece, or the piece has no `Context`. If a piece is on top when a run
+/// panics, this piece has a `Context`.
 fn depth_of(top: Option<&PendingPiece>) -> u32 {
     match top {
         Some(PendingPiece::Code(at, _))
@@ -85,7 +86,7 @@ fn depth_of(top: Option<&PendingPiece>) -> u32 {
 }
 
 impl<'a> Control<'a> {
-    /// No pending pieces: the run hasn't begun.
+    /// The control of a run that hasn't begun: there are no pending pieces.
     pub fn new(alloc: Global) -> Control<'a>
         ensures pieces { result.pieces.items ≡ [] }
         ensures ending { result.ending ≡ GoesOn }
@@ -101,7 +102,7 @@ impl<'a> Control<'a> {
         }
     }
 
-    /// Copies the pieces into memory of their own. `Err` if the workbench runs out of memory.
+    /// Copies the control, with its pieces in memory of their own. Returns `Err` if the workbench runs out of memory.
     pub fn try_copy(&self) -> Result<Control<'a>, AllocError>
         ensures pieces { IfOk result (λ copy. copy.pieces.items ≡ self.now.pieces.items) }
         ensures ending { IfOk result (λ copy. copy.ending ≡ self.now.ending) }
@@ -119,7 +120,7 @@ impl<'a> Control<'a> {
         })
     }
 
-    /// How the piece that was above the pending ones ended.
+    /// How the piece that was above the pending pieces ended.
     pub fn ending(&self) -> Ending
         ensures { result ≡ self.now.ending }
     {
@@ -138,7 +139,7 @@ impl<'a> Control<'a> {
         self.statement
     }
 
-    /// The statement that the next machine turn begins if the budget lasts; `None` if the machine turn begins none.
+    /// The statement that the next machine turn begins if the budget lasts; `None` if the turn begins no statement.
     pub fn next_statement(&self) -> Option<&'a Statement> {
         if self.is_over() {
             return None;
@@ -147,12 +148,12 @@ impl<'a> Control<'a> {
         Some(&first.statement)
     }
 
-    /// How many bodies were running when the last statement began; 0 before the first statement.
+    /// How many bodies were running when the run last began a statement; 0 before the first statement.
     pub fn depth(&self) -> u32 {
         self.depth
     }
 
-    /// The panic that ended the run; `None` if none did.
+    /// The panic that ended the run; `None` if no panic ended it.
     pub fn raised_panic(&self) -> Option<Raised> {
         let Ending::Panics(panic) = self.ending else {
             return None;
@@ -226,7 +227,7 @@ impl<'a> Control<'a> {
         self.pieces[top] = piece;
     }
 
-    /// The first machine turn: makes attempt 1 and, if it is granted, begins `main` under `main`'s own TRAP.
+    /// The first machine turn: makes attempt 1 and, if this attempt is granted, begins `main` under `main`'s own TRAP.
     #[inline(never)]
     pub fn begin(&mut self, script: &'a Script, state: &mut State) -> Result<(), NoMemory>
         requires script { IsTrue (is_script script.now) }
@@ -256,7 +257,7 @@ impl<'a> Control<'a> {
         Ok(())
     }
 
-    /// Begins a statement. On top is the rest of its block, which comes after it.
+    /// Begins a statement. The piece on top holds the statements that follow this statement in its block.
     #[inline(always)]
     fn step_code(
         &mut self,
@@ -289,7 +290,7 @@ impl<'a> Control<'a> {
         self.begin_any(script, at, &first.statement, state)
     }
 
-    /// Begins a turn of a `repeat`, whose piece is on top and then has one turn less.
+    /// Begins a turn of a `repeat`. The piece on top is the `repeat`: it loses one of its turns, and the body is put above it.
     #[inline(always)]
     fn step_turns(
         &mut self,
@@ -328,7 +329,7 @@ impl<'a> Control<'a> {
 }
 
 impl<'a> Control<'a> {
-    /// Takes a step: the next one of the piece on top.
+    /// Takes the next step of the piece on top.
     #[inline(always)]
     pub fn step(&mut self, script: &'a Script, state: &mut State) -> Result<(), NoMemory>
         requires script { IsTrue (is_script script.now) }
@@ -364,7 +365,7 @@ impl<'a> Control<'a> {
         }
     }
 
-    /// Whether the next step asks for an attempt, which it does exactly if it begins a statement that asks for one.
+    /// Whether the next step asks for an attempt. A step does so exactly if it begins a statement that asks for an attempt.
     pub fn asks(&self, script: &Script, state: &State) -> bool
         requires { (is_over self.now.ending self.now.pieces.items ≡ true)
             ⊎ IsReady self.now.ending self.now.pieces.items }

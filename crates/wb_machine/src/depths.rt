@@ -1,5 +1,5 @@
-//! Readers of a run under way: the attempt made last, the attempt that is asked for next, the depth of the cleanup stack, and how many
-//! TRAPs are open. Contracts state each answer in terms of the machine's view. Nothing here takes a machine turn.
+//! Functions that read a run under way: the last attempt, the attempt asked for next, the depth of the cleanup stack, and the number of
+//! open TRAPs. The contract of each function gives the result in terms of the machine's view. No function here takes a machine turn.
 
 ghost use Rattle.std.specs.Prelude.{◌≡◌, ◌+◌, false, true, IfSome, None};
 
@@ -7,7 +7,8 @@ use crate::machine::Machine;
 use wb_heap_model::heap::Attempt;
 
 impl<'a> Machine<'a> {
-    /// The attempt made last, granted or failed; `None` before the first attempt, and if the machine keeps its rises and no trace.
+    /// The attempt made last, granted or failed; `None` before the first attempt. If the machine keeps its rises instead of a trace, the
+    /// result is always `None`.
     pub fn last_attempt(&self) -> Option<Attempt>
         ensures last { result ≡ self.now.last }
         ensures rises { self.now.keeps_rises ≡ true → result ≡ None }
@@ -15,8 +16,8 @@ impl<'a> Machine<'a> {
         self.state.heap.trace().as_slice().last().copied()
     }
 
-    /// The number of the attempt that the next machine turn asks for, unless the workbench runs out of memory; `None` if the turn asks for
-    /// none.
+    /// The number of the attempt that the next machine turn asks for if the workbench doesn't run out of memory; `None` if the turn asks
+    /// for no attempt.
     pub fn next_attempt(&self) -> Option<u32>
         ensures number { IfSome result (λ n.
             (n ≡ self.now.attempts + 1) × (self.now.asks ≡ true)) }
@@ -35,7 +36,7 @@ impl<'a> Machine<'a> {
         self.state.items()
     }
 
-    /// How many TRAPs of the script are open, not counting `main`'s own. Goes over all pending pieces.
+    /// How many TRAPs of the script are open, not counting `main`'s own. The function goes over all pending pieces.
     pub fn open_traps(&self) -> usize
         ensures { result ≡ self.now.traps }
     {

@@ -6,9 +6,9 @@ use wb_debug::fault::DebugFault;
 /// Why a run gives no result.
 #[derive(Clone, Copy, Debug, PartialEq, Eq)]
 pub enum RunFault {
-    /// The workbench's own memory ran out. This is never a refusal of the simulated heap.
+    /// The workbench's own memory ran out. An attempt that fails in the simulated heap never gives this fault.
     NoMemory = 1,
-    /// A minimum length or a growth step that no heap may have.
+    /// The shape has a minimum length or a growth step that no heap may have.
     BadShape = 2,
 }
 

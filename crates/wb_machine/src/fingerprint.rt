@@ -1,6 +1,6 @@
-//! The fingerprint of a run under way: a number by which runs that go on alike are looked for. Runs that go on alike have the same
-//! fingerprint, and most other runs have different ones. Nothing here changes a run, or decides whether two runs go on alike, which `alike`
-//! does.
+//! The fingerprint of a run under way: a number that helps to find runs that go on alike. Runs that go on alike have the same fingerprint,
+//! and most other runs have different fingerprints. A fingerprint doesn't decide whether two runs go on alike: `alike` does. No function
+//! here changes a run.
 
 ghost use Rattle.std.specs.Prelude.{◌≡◌, length};
 ghost use Rattle.wb_heap_model.specs.CellRow.{payload_of};
@@ -10,7 +10,8 @@ use crate::state::State;
 use wb_debug::DebugHeap;
 use wb_heap_model::heap::{Header, Kind, Ptr};
 
-/// How many words of a cell go into the fingerprint at most, so that a long cell doesn't make each fingerprint slow.
+/// The most words of one cell that go into a fingerprint, for all cells except the cleanup stack's. This bound keeps long cells from making
+/// fingerprints slow.
 const MOST_WORDS: u32 = 4_096;
 
 /// How many words an item of the cleanup stack takes in its cell.
@@ -19,7 +20,7 @@ const ITEM_WORDS: u32 = 4;
 /// An odd number whose ones and zeros are spread over all of its bits.
 const FACTOR: u64 = 0x9e37_79b9_7f4a_7c15;
 
-/// A fingerprint in the making: a number that is made of other numbers, which are added one pair after another.
+/// A fingerprint in the making. Numbers are added in pairs, and all added numbers are combined into one number.
 #[derive(Drop)]
 pub struct Fingerprint {
     value: u64,
@@ -36,7 +37,7 @@ impl Fingerprint {
         self.value
     }
 
-    /// Adds two numbers.
+    /// Adds two numbers to the fingerprint.
     pub fn add(&mut self, one: u32, other: u32) {
         let word = (u64::from(one) << 32) | u64::from(other);
         let product = (self.value ^ word).wrapping_mul(FACTOR);
@@ -54,7 +55,7 @@ fn number_of(kind: Kind) -> u32 {
     }
 }
 
-/// Adds the first words of a payload of `count` words.
+/// Adds the first words of a payload to the fingerprint, at most `MOST_WORDS` words. The payload has `count` words.
 fn add_words(print: &mut Fingerprint, heap: &DebugHeap, ptr: Ptr, count: u32)
     requires { length (payload_of ptr heap.now.heap.row) ≡ count }
 {
@@ -63,8 +64,8 @@ fn add_words(print: &mut Fingerprint, heap: &DebugHeap, ptr: Ptr, count: u32)
     }
 }
 
-/// Adds the places that the first fields of an object name. The object's payload has `count` words, and each field takes two of them, from
-/// the third word on: a place and an allocation number.
+/// Adds to the fingerprint the places that an object's first fields name. The object's payload has `count` words. From the third word on,
+/// each field takes two words: a place and an allocation number.
 fn add_fields(print: &mut Fingerprint, heap: &DebugHeap, ptr: Ptr, count: u32)
     requires { length (payload_of ptr heap.now.heap.row) ≡ count }
 {
@@ -73,8 +74,8 @@ fn add_fields(print: &mut Fingerprint, heap: &DebugHeap, ptr: Ptr, count: u32)
     }
 }
 
-/// Adds the items of the cleanup stack, which are the first of its cell's payload of `count` words: of each what is done with it, the place
-/// that it names and its operation.
+/// Adds the `items` items of the cleanup stack to the fingerprint. The items come first in the payload of the stack's cell, which has
+/// `count` words. Each item adds its index, what is done with the item, the place that the item names, and the item's operation.
 fn add_items(print: &mut Fingerprint, heap: &DebugHeap, ptr: Ptr, count: u32, items: u32)
     requires { length (payload_of ptr heap.now.heap.row) ≡ count }
 {
@@ -85,8 +86,9 @@ fn add_items(print: &mut Fingerprint, heap: &DebugHeap, ptr: Ptr, count: u32, it
     }
 }
 
-/// Adds what a payload of `count` words holds: its first words, in an object the places of its fields alone, and in the cleanup stack's
-/// cell its `items` items, since what is past them isn't the same in runs that go on alike.
+/// Adds to the fingerprint what a payload of `count` words holds. A Raw cell or a text adds its first words, and an object adds only the
+/// places that its first fields name. The cleanup stack's cell adds only its `items` items, because the words after these items can differ
+/// in runs that go on alike.
 fn add_content(
     print: &mut Fingerprint,
     heap: &DebugHeap,
@@ -105,8 +107,7 @@ fn add_content(
     }
 }
 
-/// Adds the cell that a pointer names, where the cleanup stack has `items` items. Returns where the cell ends; `None` if there is no such
-/// cell.
+/// Adds the cell that a pointer names. The cleanup stack has `items` items. Returns where the cell ends; `None` if there is no such cell.
 fn add_cell(print: &mut Fingerprint, heap: &DebugHeap, ptr: Ptr, items: u32) -> Option<u32> {
     let Some(cell) = heap.header(ptr) else {
         return None;
@@ -117,7 +118,7 @@ fn add_cell(print: &mut Fingerprint, heap: &DebugHeap, ptr: Ptr, items: u32) -> 
     Some(cell.end())
 }
 
-/// Adds all live cells, in order of place, where the cleanup stack has `items` items.
+/// Adds all live cells, in order of place. The cleanup stack has `items` items.
 fn add_cells(print: &mut Fingerprint, heap: &DebugHeap, items: u32) {
     let (count, total) = heap.alloc_size();
     print.add(count, total);
@@ -134,7 +135,7 @@ fn add_cells(print: &mut Fingerprint, heap: &DebugHeap, items: u32) {
 }
 
 impl State {
-    /// Adds the state to a fingerprint. States that are the same except for allocation numbers add the same.
+    /// Adds the state to a fingerprint. States that are the same except for allocation numbers add the same numbers.
     fn add_to(&self, print: &mut Fingerprint) {
         print.add(self.items(), self.heap.level());
         print.add(0, self.this.place);
@@ -144,9 +145,10 @@ impl State {
 }
 
 impl<'a> Machine<'a> {
-    /// The fingerprint of this run: if `goes_on_like` says of two runs that they go on alike, both have the same one. It is made of the
-    /// pending pieces, the items, the number of open marks, the locals, and the live cells with what they hold, of a long cell the first
-    /// 4,096 words. Of a pointer it takes the place, and never the allocation number. Asks for no memory.
+    /// The fingerprint of this run. If `goes_on_like` returns `true` for two runs, both runs have the same fingerprint. The fingerprint is
+    /// made of the pending pieces, the cleanup stack's items, the number of open marks, the object whose body runs, the locals, and the
+    /// live cells. Each cell except the cleanup stack's adds at most the first 4,096 words of its payload. A pointer adds its place to the
+    /// fingerprint, and never its allocation number. The function asks for no memory.
     pub fn fingerprint(&self) -> u64 {
         let mut print = Fingerprint::new();
         self.control.add_to(&mut print);

@@ -9,6 +9,7 @@ ghost use Rattle.wb_machine.specs.Seen.{whole_run_of};
 use crate::machine::Machine;
 use wb_basics::memory::NoMemory;
 use wb_debug::Heap;
+use wb_meaning::progress::{Silent, StepProgress};
 use wb_meaning::run::{RisesResult, RunResult};
 
 /// What remains of a run.
@@ -16,13 +17,14 @@ use wb_meaning::run::{RisesResult, RunResult};
 pub struct Finished {
     /// The result of the run.
     pub result: RunResult,
-    /// Its heap, whose memory a copy of another machine may take.
+    /// The heap of the run. A copy of another machine may take the memory of this heap.
     pub heap: Heap,
 }
 
 impl<'a> Machine<'a> {
-    /// Takes all machine turns that are left, and returns the result of the run. An `Ok` is exactly what the definitions say of a whole run
-    /// under the machine's rule, but without a trace if the machine keeps its rises alone.
+    /// Takes all machine turns that are left, and returns the result of the run. If the function returns `Ok`, the result is exactly what
+    /// the definitions say of a whole run under the machine's rule. If the machine keeps its rises instead of a trace, the result has an
+    /// empty trace.
     pub fn run_to_end(self) -> Result<RunResult, NoMemory>
         ensures { IfOk result (λ run_result. run_result
             ≡ (whole_run_of self.entry).result) }
@@ -30,17 +32,28 @@ impl<'a> Machine<'a> {
         Ok(self.finish()?.result)
     }
 
-    /// Takes all machine turns that are left, as `run_to_end` does, and returns the run's heap with its result.
-    pub fn finish(mut self) -> Result<Finished, NoMemory>
+    /// Takes all machine turns that are left, as `run_to_end` does, and returns the result of the run together with the run's heap.
+    pub fn finish(self) -> Result<Finished, NoMemory>
         ensures { IfOk result (λ finished. finished.result
             ≡ (whole_run_of self.entry).result) }
     {
-        self.take_all_turns()?;
+        self.finish_reporting(&mut Silent)
+    }
+
+    /// Finishes the run as `finish` does. `progress` is notified of the steps taken.
+    pub fn finish_reporting<P: StepProgress>(
+        mut self,
+        progress: &mut P,
+    ) -> Result<Finished, NoMemory>
+        ensures { IfOk result (λ finished. finished.result
+            ≡ (whole_run_of self.entry).result) }
+    {
+        self.take_all_turns(progress)?;
         Ok(self.into_finished())
     }
 
-    /// The result of a run that is over, of a machine made by `new`: exactly what the definitions say of the script, the rule, the budget
-    /// and the shape. The trace has a line for each attempt, and at most one line more than the budget has steps.
+    /// The result of a run that is over, if the machine keeps a trace. The result is exactly what the definitions say of the script, the
+    /// rule, the budget and the shape. The trace has a line for each attempt, and at most one line more than the budget has steps.
     pub fn result(self) -> RunResult
         requires over { self.over ≡ true }
         requires well { self.failed ≡ false }
@@ -54,7 +67,8 @@ impl<'a> Machine<'a> {
         self.into_finished().result
     }
 
-    /// The result of a run that is over, with its heap, of any machine. The trace is empty if the machine keeps its rises alone.
+    /// The result of a run that is over, together with the run's heap. The trace is empty if the machine keeps its rises instead of a
+    /// trace.
     fn into_finished(self) -> Finished
         requires over { self.over ≡ true }
         requires well { self.failed ≡ false }
@@ -75,7 +89,7 @@ impl<'a> Machine<'a> {
         state.finish(control.ending(), leaks)
     }
 
-    /// Gives the run up. Returns its heap, whose memory a copy of another machine may take.
+    /// Gives the run up and returns its heap, so that a copy of another machine can take the heap's memory.
     pub fn into_heap(self) -> Heap {
         let Machine {
             script: _,
@@ -89,8 +103,8 @@ impl<'a> Machine<'a> {
         state.into_heap()
     }
 
-    /// Returns the outcome, the rises and the steps of a run that is over, of a machine made by `new_rises`: exactly those that the
-    /// definitions say of a whole run.
+    /// Returns the outcome, the rises and the steps of a run that is over, if the machine keeps its rises instead of a trace. The three are
+    /// exactly those that the definitions give for the whole run.
     pub fn rises_result(self) -> RisesResult
         requires over { self.over ≡ true }
         requires well { self.failed ≡ false }

@@ -64,7 +64,7 @@ impl State {
         }
     }
 
-    /// Ends a body without a result, so that a caller gets null.
+    /// Ends a body without a result: a caller that takes the body's result gets null.
     #[inline(always)]
     pub fn end_body(&mut self) -> Ending
         ensures { CarriesOut self.old (returned self.old null) result self.new }

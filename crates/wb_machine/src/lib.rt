@@ -10,7 +10,6 @@ mod carry_text;
 mod cells;
 mod cleanup;
 mod control;
-pub mod counted;
 mod depths;
 pub mod fault;
 mod fingerprint;
@@ -41,7 +40,7 @@ mod words;
 
 pub use fault::RunFault;
 pub use finished::Finished;
-pub use machine::{Machine, Turn, run, run_rises};
+pub use machine::{Machine, Turn, run, run_reporting, run_rises};
 pub use raiser::{Raised, Raiser};
 pub use wb_basics::memory::NoMemory;
 pub use wb_debug::Heap;

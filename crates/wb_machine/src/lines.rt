@@ -38,7 +38,7 @@ impl State {
         self.print(line)
     }
 
-    /// Adds a note to those of the run.
+    /// Adds a note to the notes of the run.
     fn note(&mut self, note: Note) -> Result<Ending, NoMemory>
         ensures effect { IfOk result (λ ending.
             CarriesOut self.old (gone_on (with_note self.old note)) ending self.new) }
@@ -48,7 +48,7 @@ impl State {
         Ok(Ending::GoesOn)
     }
 
-    /// Notes how many cells are live, their total length, and the committed length.
+    /// Adds a note to the notes of the run: how many cells are live, the total length of these cells, and the committed length.
     pub fn note_heap(&mut self) -> Result<Ending, NoMemory>
         ensures effect { IfOk result (λ ending.
             CarriesOut self.old (gone_on (heap_noted self.old)) ending self.new) }
@@ -58,7 +58,8 @@ impl State {
         self.note(note)
     }
 
-    /// Notes how many bytes are free below the committed length, in all and in the longest free stretch.
+    /// Adds a note to the notes of the run: how many bytes are free below the committed length, and how long the longest stretch of these
+    /// bytes is.
     pub fn note_available(&mut self) -> Result<Ending, NoMemory>
         ensures effect { IfOk result (λ ending.
             CarriesOut self.old (gone_on (available_noted self.old)) ending self.new) }
@@ -68,7 +69,7 @@ impl State {
         self.note(note)
     }
 
-    /// Compresses the heap, and notes how many bytes of committed length that gives up.
+    /// Compresses the heap, and adds a note to the notes of the run: by how many bytes the committed length became shorter.
     pub fn note_compress(&mut self) -> Result<Ending, NoMemory>
         ensures effect { IfOk result (λ ending.
             CarriesOut self.old (gone_on (compress_noted self.old)) ending self.new) }

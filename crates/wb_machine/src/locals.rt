@@ -30,7 +30,7 @@ pub const NULL: Ptr = Ptr {
     number: 0,
 };
 
-/// What a local holds unless it holds a buffer. `NoBuffer` reads as an empty buffer of maximum 0, and takes no room.
+/// What a local holds if it holds no buffer. `NoBuffer` reads as an empty buffer of maximum 0, and takes no room.
 #[derive(Clone, Copy)]
 pub enum Slot {
     Pointer(Ptr),
@@ -52,7 +52,7 @@ pub enum Stored {
     Buffer(BufferIndex),
 }
 
-/// The locals of all frames, those of the innermost frame last. A local is named by its index in its frame.
+/// The locals of all frames, with the locals of the innermost frame last. A local is named by its index in its frame.
 pub struct Locals {
     slots: Vec<Stored>,
     /// The buffers of all frames, in the order of their locals.
@@ -63,8 +63,8 @@ pub struct Locals {
     base: usize,
 }
 
-/// Written by hand, so that a proof about a function that drops such a value has a single call there, and only this function goes over the
-/// fields.
+/// This `drop` is written by hand, so that only this function goes over the fields. In a proof about a function that drops a `Locals`, the
+/// drop is then a single call.
 impl Drop for Locals {
     fn drop(self) {
         let Locals {
@@ -97,7 +97,7 @@ pub fn copy_of(buf: &Buf) -> Buf
     }
 }
 
-/// Copies of the buffers, in memory of their own.
+/// Makes copies of the buffers, in memory of their own. Returns `Err` if the workbench runs out of memory.
 fn copies_of(buffers: &Vec<Buf>) -> Result<Vec<Buf>, AllocError>
     ensures { IfOk result (λ copies. copies.items ≡ buffers.now.items) }
 {
@@ -166,7 +166,7 @@ fn declare(
     Ok(())
 }
 
-/// The local that is stored at this index; the number 0 if there is none.
+/// The local that is stored at this index; the number 0 if no local is stored there.
 #[inline(always)]
 fn stored_at(slots: &[Stored], at: usize) -> Stored
     ensures { result ≡ stored_at slots.now at }
@@ -190,7 +190,7 @@ fn first_buffer(frame: &[Stored], end: usize) -> usize
 }
 
 impl Locals {
-    /// No locals. Takes no memory.
+    /// An empty list of locals, which takes no memory.
     pub fn new(alloc: Global) -> Locals
         ensures { result ≡ record { callers = []; locals = [] } }
     {
@@ -202,7 +202,7 @@ impl Locals {
         }
     }
 
-    /// Copies the locals into memory of their own. `Err` if the workbench runs out of memory.
+    /// Copies the locals into memory of their own. Returns `Err` if the workbench runs out of memory.
     pub fn try_copy(&self) -> Result<Locals, AllocError>
         ensures { IfOk result (λ copy. copy ≡ self.now) }
     {
@@ -216,8 +216,8 @@ impl Locals {
         })
     }
 
-    /// Adds a frame for a body, as the innermost one. Returns where the caller's frame begins. Asks for memory only if the room for locals
-    /// or that for buffers is used up.
+    /// Adds a frame for a body, as the innermost frame. Returns where the caller's frame begins. Asks for memory only if the room for
+    /// locals or the room for buffers is used up.
     #[inline(always)]
     pub fn call(
         &mut self,
@@ -239,8 +239,8 @@ impl Locals {
         Ok(caller)
     }
 
-    /// Drops the innermost frame. The caller's frame is the innermost again: it begins at `base`, or where the dropped frame began if that
-    /// is lower.
+    /// Drops the innermost frame, so that the caller's frame is the innermost again. The caller's frame begins at `base`, or where the
+    /// dropped frame began if the dropped frame began below `base`.
     #[inline(always)]
     pub fn end_call(&mut self, base: usize)
         ensures { self.new ≡ unframed self.old base }
@@ -251,7 +251,7 @@ impl Locals {
         self.base = base.min(self.base);
     }
 
-    /// The pointer that a holder, which is a local or `self`, holds in a body of the object `this`; null if the local holds no pointer.
+    /// The pointer that a holder (a local or `self`) holds in a body of the object `this`; null if the local holds no pointer.
     #[inline(always)]
     pub fn holder_pointer(&self, this: Ptr, holder: Holder) -> Ptr
         ensures { result ≡ holder_pointer_over this self.now.locals holder }
@@ -259,7 +259,7 @@ impl Locals {
         holder_pointer_over(this, &self.slots[self.base..], holder)
     }
 
-    /// The value of a pointer operand, over the innermost frame; null if the operand names no pointer.
+    /// The value of a pointer operand in the innermost frame; null if the operand names no pointer.
     #[inline(always)]
     pub fn pointer(&self, context: ReadContext, operand: Pointer) -> Ptr
         ensures { result ≡ pointer_over context.entry.script.now context.entry.heap.now
@@ -268,7 +268,7 @@ impl Locals {
         pointer_over(context, &self.slots[self.base..], operand)
     }
 
-    /// The value of a number operand, over the innermost frame; 0 if the operand names no number.
+    /// The value of a number operand in the innermost frame; 0 if the operand names no number.
     #[inline(always)]
     pub fn number(&self, operand: Number) -> i32
         ensures { result ≡ number_over self.now.locals operand }
@@ -276,7 +276,7 @@ impl Locals {
         number_over(&self.slots[self.base..], operand)
     }
 
-    /// The buffer in a local of the innermost frame; an empty buffer of maximum 0 if the local holds none.
+    /// The buffer in a local of the innermost frame; an empty buffer of maximum 0 if the local holds no buffer.
     pub fn buffer(&self, index: u8) -> &Buf
         ensures { result.now ≡ buffer_in (value_in self.now.locals index) }
     {
@@ -293,7 +293,7 @@ impl Locals {
         &self.none
     }
 
-    /// The view in a local of the innermost frame; the empty view of no text if the local holds none.
+    /// The view in a local of the innermost frame; the empty view of no text if the local holds no view.
     pub fn view(&self, index: u8) -> Window
         ensures { result ≡ window_in (value_in self.now.locals index) }
     {
@@ -315,8 +315,8 @@ impl Locals {
         }
     }
 
-    /// Replaces the buffer in a local of the innermost frame by one of the same maximum; a local without a buffer counts as one of maximum
-    /// 0. If the frame has no such local, nothing changes.
+    /// Replaces the buffer in a local of the innermost frame by a buffer of the same maximum. A local without a buffer counts as holding a
+    /// buffer of maximum 0. If the frame has no such local, nothing changes.
     fn set_buffer(&mut self, index: u8, buf: Buf)
         requires { buf.max ≡ max_in (value_in self.old.locals index) }
         ensures { self.new
@@ -325,7 +325,7 @@ impl Locals {
         match stored_at(&self.slots, self.base + index as usize) {
             Stored::Buffer(place) => self.buffers[place.at] = buf,
             Stored::Small(_) => {
-                // a buffer of maximum 0 has no unit
+                // a buffer of maximum 0 holds no unit
                 let _ = buf.max();
                 self.set(index, Slot::NoBuffer);
             }

@@ -1,4 +1,5 @@
-//! The machine that callers see, and whole runs. What a machine turn does is in `control`, and what remains of a run in `finished`.
+//! The machine that callers see, and whole runs. What a machine turn does is in the file `control`, and what remains of a run is in the
+//! file `finished`.
 
 ghost use Rattle.std.specs.Prelude.{◌≡◌, ◌+◌, ◌≤◌, ◌↔◌, true, false, length, is_err, IsTrue};
 ghost use Rattle.std.specs.Prelude.{IfOk, IsOk, OnOk, OnErr};
@@ -27,6 +28,7 @@ use wb_basics::memory::NoMemory;
 use wb_debug::Heap;
 use wb_heap_model::heap::{Rule, Shape};
 use wb_heap_model::reported::Leaks;
+use wb_meaning::progress::{Silent, StepProgress};
 use wb_meaning::run::{RisesResult, RunResult};
 use wb_tree::script::Script;
 
@@ -68,10 +70,10 @@ impl<'a> Model for Machine<'a> {
 }
 
 impl<'a> Machine<'a> {
-    /// A machine at the start of a run, before its first attempt. It keeps a trace: a line for each attempt.
+    /// A machine at the start of a run, before the run's first attempt. The machine keeps a trace: a line for each attempt.
     ///
-    /// The budget is in steps, the shape's lengths are in bytes. Returns `BadShape` exactly if no heap may have the shape, and never
-    /// `NoMemory` in its place.
+    /// The budget is in steps, the shape's lengths are in bytes. Returns `BadShape` exactly if no heap may have the shape; in that case,
+    /// never returns `NoMemory`.
     pub fn new(
         alloc: Global,
         script: &'a Script,
@@ -88,11 +90,11 @@ impl<'a> Machine<'a> {
         Ok(at_start(alloc, script, budget, State::new(alloc, rule, shape)?))
     }
 
-    /// A machine at the start of a run without a limit. It keeps no trace, but the rises: the granted attempts whose cells end past those
-    /// of all attempts granted before.
+    /// A machine at the start of a run without a limit. The machine keeps no trace. Instead, it keeps the rises: the granted attempts whose
+    /// cells end past the ends of all cells that were granted earlier.
     ///
-    /// The budget is in steps, the shape's lengths are in bytes. Returns `BadShape` exactly if no heap may have the shape, and never
-    /// `NoMemory` in its place.
+    /// The budget is in steps, the shape's lengths are in bytes. Returns `BadShape` exactly if no heap may have the shape; in that case,
+    /// never returns `NoMemory`.
     pub fn new_rises(
         alloc: Global,
         script: &'a Script,
@@ -110,12 +112,14 @@ impl<'a> Machine<'a> {
 
     /// Takes the next turn.
     ///
-    /// The first makes attempt 1 and begins `main`, and counts no step. Each later one counts a step and
-    /// carries it out, or cuts the run where the budget is used up; all ends that follow belong to it. A turn
-    /// makes one attempt where `will_attempt` was true before it, unless the ceiling cuts the run, and none
-    /// elsewhere. Once the run is over it answers `Ended` and changes nothing. After `NoMemory` the machine
-    /// answers `NoMemory` for good. The turn after which a run has ended plainly, or by a leave, lists the leaks; no other asks
-    /// for memory for them.
+    /// The first turn makes attempt 1, begins `main` if the attempt is granted, and counts no step. Each later turn counts a step and
+    /// carries the step out, or cuts the run if the budget is used up. If blocks or bodies end right after a step, their ends belong to the
+    /// step's turn. If `will_attempt` was true before a turn, the turn makes one attempt, unless the ceiling cuts the run. If
+    /// `will_attempt` was false, the turn makes no attempt.
+    ///
+    /// Once the run is over, `step` returns `Ended` and changes nothing. Once the machine has returned `NoMemory`, each later call of
+    /// `step` returns `NoMemory` too and changes nothing. Only the last turn of a run that ends normally or by a leave lists the leaks, and
+    /// asks for memory for the list.
     pub fn step(&mut self) -> Result<Turn, NoMemory>
         ensures same { IsSameRun self.old self.new }
         ensures turned { IfOk result (λ turn. TurnLeaves turn self.old self.new) }
@@ -150,7 +154,7 @@ impl<'a> Machine<'a> {
         Ok(Turn::Ended)
     }
 
-    /// Copies the run into memory of its own: what is done to one of the two changes nothing in the other. `NoMemory` if the workbench runs
+    /// Copies the run into separate memory: changing the run or its copy doesn't change the other. Returns `NoMemory` if the workbench runs
     /// out of memory.
     pub fn try_copy(&self) -> Result<Machine<'a>, NoMemory>
         ensures { IfOk result (λ copy. copy ≡ self.now) }
@@ -158,7 +162,7 @@ impl<'a> Machine<'a> {
         self.try_copy_over(None)
     }
 
-    /// Copies the run as `try_copy` does, but its heap into the memory of `spare`, if there is one. What `spare` held is lost.
+    /// Copies the run as `try_copy` does. If `spare` is given, the copy's heap takes the memory of `spare`, and what `spare` held is lost.
     pub fn try_copy_over(&self, spare: Option<Heap>) -> Result<Machine<'a>, NoMemory>
         ensures { IfOk result (λ copy. copy ≡ self.now) }
     {
@@ -173,8 +177,9 @@ impl<'a> Machine<'a> {
         })
     }
 
-    /// Goes on under another rule. Neither the old rule nor the new one is a limit, and of the attempts made so far both make the same ones
-    /// fail: so the run comes to what it would have come to under the new rule from its start. The machine must be one that keeps a trace.
+    /// Continues the run under another rule. Neither the old rule nor the new rule may be a limit, and both rules must agree on which of
+    /// the attempts made so far fail. So the run comes to the same result as a run that is under the new rule from the start. The machine
+    /// must keep a trace.
     pub fn set_rule(&mut self, rule: Rule)
         requires lines { self.old.keeps_rises ≡ false }
         requires same { SameSoFar rule self.old.rule self.old.attempts }
@@ -185,9 +190,9 @@ impl<'a> Machine<'a> {
         self.state.set_rule(rule);
     }
 
-    /// Whether the next turn asks for an attempt, if it finds memory. Then it makes one, unless the ceiling cuts the run. The
-    /// first turn does. One that cuts the run at the budget asks for none; nor does any once the run is over, or after
-    /// `NoMemory`.
+    /// Whether the next turn asks for an attempt, provided that the workbench doesn't run out of memory. A turn that asks for an attempt
+    /// makes one attempt, unless the ceiling cuts the run. The first turn of a run asks for an attempt. A turn asks for no attempt if it
+    /// cuts the run at the budget, or comes after the run is over or after `NoMemory`.
     pub fn will_attempt(&self) -> bool
         ensures asks { result ≡ self.now.asks }
         ensures going { result ≡ true → (self.now.over ≡ false) × (self.now.failed ≡ false) }
@@ -203,8 +208,8 @@ impl<'a> Machine<'a> {
     }
 
     /// How many attempts the run has made so far; once the run is over, how many it makes in all. An attempt at which the ceiling cuts the
-    /// run isn't counted. Each attempt but the first is made in a step of its own, so there is at most one attempt more than the budget has
-    /// steps.
+    /// run isn't counted. Each attempt but the first is made in a step of its own, so a run makes at most one attempt more than the budget
+    /// has steps.
     pub fn attempts(&self) -> u32
         ensures so_far { result ≡ self.now.attempts }
         ensures all { self.now.over ≡ true → self.now.failed ≡ false →
@@ -222,9 +227,9 @@ impl<'a> Machine<'a> {
         self.control.line()
     }
 
-    /// Takes all turns that are left of a run that was begun and goes on: as `step` does each, but what watches a run sees none
-    /// of them. After `NoMemory` the machine answers `NoMemory` for good.
-    fn take_other_turns(&mut self) -> Result<(), NoMemory>
+    /// Takes all turns that are left, each as `step` does. The run has begun and isn't over. `progress` is notified of the steps taken. If
+    /// this function returns `NoMemory`, each later call of `step` returns `NoMemory` too.
+    fn take_other_turns<P: StepProgress>(&mut self, progress: &mut P) -> Result<(), NoMemory>
         requires begun { self.old.begun ≡ true }
         requires going { self.old.over ≡ false }
         requires well { self.old.failed ≡ false }
@@ -234,7 +239,7 @@ impl<'a> Machine<'a> {
     {
         let taken = self
             .control
-            .take_all_turns(self.script, self.budget, &mut self.state);
+            .take_all_turns(self.script, self.budget, &mut self.state, progress);
         if let Err(error) = taken {
             self.failed = Some(error);
             return Err(error);
@@ -246,20 +251,24 @@ impl<'a> Machine<'a> {
         Ok(())
     }
 
-    /// Takes all turns that are left, unless memory has run out.
-    pub(crate) fn take_all_turns(&mut self) -> Result<(), NoMemory>
+    /// Takes all turns that are left. If the machine returned `NoMemory` before, takes no turn and returns `NoMemory` again. `progress` is
+    /// notified of the steps taken.
+    pub(crate) fn take_all_turns<P: StepProgress>(
+        &mut self,
+        progress: &mut P,
+    ) -> Result<(), NoMemory>
         ensures same { IsSameRun self.old self.new }
         ensures over { OnOk result (self.new.over ≡ true) }
         ensures well { OnOk result (self.new.failed ≡ false) }
     {
         match self.step()? {
-            Turn::GoesOn => self.take_other_turns(),
+            Turn::GoesOn => self.take_other_turns(progress),
             Turn::Ended => Ok(()),
         }
     }
 }
 
-/// The machine at the start of a run, over a state in which nothing has been done yet.
+/// The machine at the start of a run, with a state in which nothing has been done yet.
 fn at_start<'a>(alloc: Global, script: &'a Script, budget: u32, state: State) -> Machine<'a>
     requires script { IsTrue (is_script script.now) }
     requires greatest { budget ≤ LARGEST_BUDGET }
@@ -280,8 +289,8 @@ fn at_start<'a>(alloc: Global, script: &'a Script, budget: u32, state: State) ->
     }
 }
 
-/// Lists the leaks of a run with this ending. A run that was stopped, by a panic, a cut or a failed attempt 1, has no list: then `leaks`
-/// stays as it was, and no memory is asked for.
+/// Puts the list of the leaks into `leaks`, for a run with this ending. A run that was stopped by a panic, a cut or a failed attempt 1 has
+/// no such list. In that case `leaks` stays as it was, and the function asks for no memory.
 fn list_leaks(leaks: &mut Leaks, ending: Ending, state: &State) -> Result<(), NoMemory>
     ensures run_result { OnOk result (is_stop ending ≡ false → leaks.new ≡ leaks_at_end state.now) }
     ensures untold { is_stop ending ≡ true → (IsOk result) × (leaks.new ≡ leaks.old) }
@@ -292,11 +301,11 @@ fn list_leaks(leaks: &mut Leaks, ending: Ending, state: &State) -> Result<(), No
     Ok(())
 }
 
-/// Runs a script from its first attempt to its end, or until it is cut.
+/// Runs a script from the first attempt to the end of the run, or until the run is cut.
 ///
-/// An `Ok` is exactly what the definitions say of the script, the rule, the budget (in steps) and the shape (in bytes); a run that is cut
-/// gives an `Ok` too. Its trace has at most one line more than the budget has steps. Returns `BadShape` exactly if no heap may have the
-/// shape, and never `NoMemory` in its place.
+/// An `Ok` is exactly what the definitions say of the script, the rule, the budget (in steps) and the shape (in bytes). A run that is cut
+/// gives an `Ok` too. The result's trace has at most one line more than the budget has steps. Returns `BadShape` exactly if no heap may
+/// have the shape; in that case, never returns `NoMemory`.
 pub fn run(
     alloc: Global,
     script: &Script,
@@ -311,29 +320,54 @@ pub fn run(
     ensures few { IfOk result (λ run_result. length run_result.trace ≤ budget + 1) }
     ensures shape { (result ≡ Err RunFault.BadShape) ↔ (is_shape shape ≡ false) }
 {
+    run_reporting(alloc, script, rule, budget, shape, &mut Silent)
+}
+
+/// Runs a script as `run` does. `progress` is notified of the steps taken.
+pub fn run_reporting<P: StepProgress>(
+    alloc: Global,
+    script: &Script,
+    rule: Rule,
+    budget: u32,
+    shape: Shape,
+    progress: &mut P,
+) -> Result<RunResult, RunFault>
+    requires script { IsTrue (is_script script.now) }
+    requires least { 1 ≤ budget }
+    requires greatest { budget ≤ LARGEST_BUDGET }
+    ensures ran { IfOk result (λ run_result. run_result ≡ run script.now rule budget shape) }
+    ensures few { IfOk result (λ run_result. length run_result.trace ≤ budget + 1) }
+    ensures shape { (result ≡ Err RunFault.BadShape) ↔ (is_shape shape ≡ false) }
+{
     let mut machine = Machine::new(alloc, script, rule, budget, shape)?;
-    machine.take_all_turns()?;
+    machine.take_all_turns(progress)?;
     Ok(machine.result())
 }
 
-/// Runs a script without a limit. The rises are kept and no trace, so that an attempt that isn't a rise adds nothing to what is kept.
+/// Runs a script without a limit. Returns the run's result, which has the rises but no trace, and how many attempts the run makes. A rise
+/// is a granted attempt whose cell ends past the ends of all cells that were granted earlier. Other attempts add nothing to what the run
+/// keeps. `progress` is notified of the steps taken.
 ///
-/// An `Ok` is exactly what the definitions say of the script, the budget (in steps) and the shape (in bytes); a run that is cut gives an
-/// `Ok` too. Returns `BadShape` exactly if no heap may have the shape, and never `NoMemory` in its place.
-pub fn run_rises(
+/// An `Ok` is exactly what the definitions say of the script, the budget (in steps) and the shape (in bytes). A run that is cut gives an
+/// `Ok` too. Returns `BadShape` exactly if no heap may have the shape; in that case, never returns `NoMemory`.
+pub fn run_rises<P: StepProgress>(
     alloc: Global,
     script: &Script,
     budget: u32,
     shape: Shape,
-) -> Result<RisesResult, RunFault>
+    progress: &mut P,
+) -> Result<(RisesResult, u32), RunFault>
     requires script { IsTrue (is_script script.now) }
     requires least { 1 ≤ budget }
     requires greatest { budget ≤ LARGEST_BUDGET }
-    ensures ran { IfOk result (λ run_result.
-        run_result ≡ rises_result_of (run script.now Unlimited budget shape)) }
+    ensures ran { IfOk result (λ counted.
+        counted.0 ≡ rises_result_of (run script.now Unlimited budget shape)) }
+    ensures attempts { IfOk result (λ counted.
+        counted.1 ≡ length (run script.now Unlimited budget shape).trace) }
     ensures shape { (result ≡ Err RunFault.BadShape) ↔ (is_shape shape ≡ false) }
 {
     let mut machine = Machine::new_rises(alloc, script, budget, shape)?;
-    machine.take_all_turns()?;
-    Ok(machine.rises_result())
+    machine.take_all_turns(progress)?;
+    let attempts = machine.attempts();
+    Ok((machine.rises_result(), attempts))
 }

@@ -18,7 +18,7 @@ use wb_heap_model::heap::Panic;
 use wb_tree::script::Number;
 
 impl State {
-    /// Opens a mark: cells that are allocated from now on are of the next level.
+    /// Opens a mark: cells that are allocated from now on belong to the next level.
     pub fn mark(&mut self) -> Ending
         requires { self.old.debug.heap.level + 1 < 2 ^ 32 }
         ensures { CarriesOut self.old (gone_on (marked self.old)) result self.new }
@@ -27,8 +27,8 @@ impl State {
         Ending::GoesOn
     }
 
-    /// Closes the innermost mark, if exactly `count` cells of its level are live. Otherwise, or if no mark is open, returns the panic and
-    /// changes nothing.
+    /// Closes the innermost mark if exactly `count` cells of the mark's level are live. If more or fewer of these cells are live, or no
+    /// mark is open, returns the panic and changes nothing.
     fn end_mark(&mut self, count: u32) -> Result<(), Panic>
         ensures refused { IfErr result (λ panic.
             mark_end_refusal self.old.debug.heap count ≡ Some panic) }
@@ -41,7 +41,8 @@ impl State {
         self.heap.mark_end(count)
     }
 
-    /// Closes the innermost mark. Panics if no mark is open, or not exactly `count` cells of its level are live.
+    /// Closes the innermost mark. Panics if `count` is negative, if no mark is open, or if more or fewer than `count` cells of the mark's
+    /// level are live.
     pub fn mark_end(&mut self, count: &Number) -> Ending
         ensures { CarriesOut self.old (mark_end_within self.old
             (not_negative (number_read self.old count.now))) result self.new }
@@ -83,7 +84,7 @@ impl State {
         }
     }
 
-    /// Makes the `rate`-th attempt from here on fail, and no later one.
+    /// Replaces the script's setting. The new setting makes only the `rate`-th attempt from here on fail. Panics if `rate` is less than 1.
     pub fn fail_next(&mut self, rate: &Number) -> Ending
         ensures { CarriesOut self.old (set_within self.old (λ n.
             next n) (at_least_one (number_read self.old rate.now))) result self.new }
@@ -95,7 +96,7 @@ impl State {
         Ending::GoesOn
     }
 
-    /// Makes every `rate`-th attempt from here on fail.
+    /// Replaces the script's setting. The new setting makes every `rate`-th attempt from here on fail. Panics if `rate` is less than 1.
     pub fn fail_every(&mut self, rate: &Number) -> Ending
         ensures { CarriesOut self.old (set_within self.old (λ n.
             each n n) (at_least_one (number_read self.old rate.now))) result self.new }

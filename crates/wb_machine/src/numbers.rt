@@ -14,7 +14,7 @@ use wb_heap_model::heap::Panic;
 use wb_tree::script::{Number, Pointer, Script};
 
 impl State {
-    /// A target gets the pointer of a source.
+    /// Puts the pointer of a source into a target.
     #[inline(never)]
     pub fn copy_pointer(&mut self, script: &Script, target: &Pointer, source: &Pointer) -> Ending
         ensures { CarriesOut self.old (gone_on
@@ -26,7 +26,7 @@ impl State {
         Ending::GoesOn
     }
 
-    /// A target gets null.
+    /// Puts null into a target.
     pub fn set_null(&mut self, target: &Pointer) -> Ending
         ensures { CarriesOut self.old (gone_on (pointer_stored self.old target.now null)) result
             self.new }
@@ -35,7 +35,7 @@ impl State {
         Ending::GoesOn
     }
 
-    /// A number local gets a number.
+    /// Puts a number into a number local.
     #[inline(always)]
     pub fn set_number(&mut self, local: u8, value: &Number) -> Ending
         ensures { CarriesOut self.old (gone_on

@@ -1,4 +1,4 @@
-//! Statements that make objects, the class of an object, and its fields.
+//! Statements that make objects, and functions for the class and the fields of an object.
 
 ghost use Rattle.std.specs.Prelude.{◌≡◌, ◌+◌, ◌*◌, ◌<◌, ◌≤◌, Ok, length, IfOk, OnErr, OnOk, IsTrue};
 ghost use Rattle.wb_tree.specs.Bodies.{class_at};
@@ -21,15 +21,15 @@ use wb_objects::set_field;
 use wb_tree::script::{Pointer, Refusal, Script};
 
 impl State {
-    /// The class of the object that a pointer names. WORKBENCH 1 if the pointer names no live cell, and WORKBENCH 2 if the cell holds no
-    /// object.
+    /// The class of the object that a pointer names. The panic is WORKBENCH 1 if the pointer names no live cell, and WORKBENCH 2 if the
+    /// cell holds no object.
     pub fn class(&self, ptr: Ptr) -> Result<u16, Panic>
         ensures { result ≡ class_read self.now ptr }
     {
         wb_objects::class_of(&self.heap, ptr)
     }
 
-    /// Puts a pointer into a field of an object of this class, whose cell has words for the field.
+    /// Puts a pointer into a field of an object. The object is of the class `class`, and the object's cell has words for the field.
     fn put_field(&mut self, object: Ptr, class: u16, index: u8, to: Ptr)
         requires class { class_read self.old object ≡ Ok class }
         requires room { 4 + 2 * index ≤ length (payload_of object self.old.debug.heap.row) }
@@ -44,9 +44,9 @@ impl State {
         }
     }
 
-    /// Puts a pointer into a field of an object, whatever its class. A cell that holds no object, or has no words for the field, stays as
-    /// it is. Neither comes up in a run of a script that was read, because the field's object is tested before the statement is carried
-    /// out.
+    /// Puts a pointer into a field of an object of any class. A cell that holds no object, or has no words for the field, stays as it is. A
+    /// script that was read never sets a field of such a cell, because `operands_refusal` tests the field's object before the statement is
+    /// carried out.
     pub fn set_field(&mut self, object: Ptr, index: u8, to: Ptr)
         ensures set { self.new ≡ with_debug self.old
             (with_row self.old.debug (row_with_field object index to self.old.debug.heap.row)) }
@@ -61,8 +61,7 @@ impl State {
     }
     /// Makes an attempt to get a cell for an object of a class.
     ///
-    /// An attempt whose cell would end past the heap's ceiling isn't counted, and neither is one for which the workbench itself runs out of
-    /// memory. Both leave everything as it was.
+    /// If the heap's ceiling refuses the cell, or the workbench itself runs out of memory, the attempt isn't counted and nothing changes.
     fn attempt_object(&mut self, script: &Script, class: u16) -> Result<Gave, NoMemory>
         requires script { IsTrue (is_script script.now) }
         requires class { class < length script.now.classes }
@@ -77,7 +76,8 @@ impl State {
         wb_objects::make(&mut self.heap, script, class)
     }
 
-    /// Makes an object of a class, which the target gets.
+    /// Makes an object of a class, and gives the target a pointer to the object. If the attempt fails, the statement does what `refusal`
+    /// says.
     #[inline(never)]
     pub fn new_object(
         &mut self,

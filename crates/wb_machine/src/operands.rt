@@ -1,4 +1,4 @@
-//! The ranges in which the numbers of statements must be. Nothing here changes a state.
+//! The ranges in which the numbers of statements must be. No function here changes a state.
 
 ghost use Rattle.std.specs.Prelude.{◌≡◌, ◌≤◌, IfSome};
 ghost use Rattle.wb_meaning.specs.Operands.{within, not_negative};
@@ -39,7 +39,7 @@ pub fn at_least_one(number: i32) -> Option<u32>
     }
 }
 
-/// The index of a word, if a payload of `usable` bytes has that word; `None` otherwise. A word has 4 bytes.
+/// The index `index`, if a payload of `usable` bytes has a word with this index; `None` otherwise. A word has 4 bytes.
 pub fn word_within(usable: u32, index: i32) -> Option<u32>
     ensures { result ≡ index_in usable index }
 {

@@ -1,4 +1,4 @@
-//! The pieces of what a run has still to do, and how a piece ends.
+//! The pieces of work that a run still has to do, and how a piece ends.
 
 ghost use Rattle.std.specs.Prelude.{◌≡◌};
 ghost use Rattle.std.specs.Option.{option_copied};
@@ -8,7 +8,7 @@ use wb_heap_model::heap::{Panic, Ptr};
 use wb_meaning::run::Why;
 use wb_tree::script::StatementAt;
 
-/// How the piece that was above the pending ones ended.
+/// How the piece that was above the pending pieces ended.
 #[derive(Clone, Copy)]
 pub enum Ending {
     /// Plainly: the piece on top goes on.
@@ -58,26 +58,28 @@ pub enum After {
     Releases(Ptr),
 }
 
-/// A pending piece.
+/// A pending piece: work that a run still has to do.
 #[derive(Clone, Copy)]
 pub enum PendingPiece<'a> {
     /// The rest of a block.
     Code(Context, &'a [StatementAt]),
     /// How many turns a `repeat` has left, and its body.
     Turns(Context, u32, &'a [StatementAt]),
-    /// How many items are left to destroy, the newest first.
+    /// How many items of the cleanup stack are left to destroy. The newest item is destroyed first.
     Items(Context, u32),
     /// The destruction of an object, by a pointer that isn't null.
     Object(Context, Ptr),
-    /// A TRAP: the index of its local, which gets 0 or a leave's code, and how many items were at the TRAP's entry.
+    /// A TRAP: the index of its local, which gets 0 or a leave's code, and how many items were on the cleanup stack at the TRAP's entry.
     Trap(Context, u8, u32),
-    /// A TRAP whose body was left: the index of its local, and the code that the local gets once the items are destroyed.
+    /// A TRAP whose body ended by a leave: the index of the TRAP's local, and the leave's code. The local gets the code once all items
+    /// added since the TRAP's entry are destroyed.
     Caught(u8, i32),
     /// `main`'s own TRAP.
     MainTrap,
-    /// `main`'s own TRAP, after `main` was left: the code of the leave, which ends the run once the items are destroyed.
+    /// `main`'s own TRAP, after `main` ended by a leave: the leave's code. The leave ends the run once all items are destroyed.
     MainCaught(i32),
-    /// A call: where the caller's frame begins among the locals, the object whose body the caller runs, and what follows.
+    /// A call: where the caller's frame begins among the locals, the object whose body the caller runs (or null), and what follows the end
+    /// of the called body.
     Call(usize, Ptr, After),
 }
 
@@ -99,7 +101,7 @@ pub fn needs_step(piece: &PendingPiece) -> bool
     }
 }
 
-/// The statement that a piece begins with; `None` if it begins with none.
+/// The statement that a piece begins with; `None` if the piece begins with no statement.
 pub fn first_statement<'a>(piece: &PendingPiece<'a>) -> Option<&'a StatementAt>
     ensures { option_copied result ≡ first_statement piece.now }
 {

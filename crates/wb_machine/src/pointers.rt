@@ -1,4 +1,4 @@
-//! Pointer operands over the locals of a frame: what a local holds, `self`, and fields of objects.
+//! The values of pointer operands in a frame: what a local holds, `self`, and fields of objects.
 
 ghost use Rattle.std.specs.Prelude.{◌≡◌, ◌+◌, ◌*◌, List, length, nat_le};
 ghost use Rattle.wb_heap_model.specs.CellRow.{payload_of};
@@ -22,7 +22,8 @@ pub struct ReadContext<'b> {
     pub this: Ptr,
 }
 
-/// The pointer that a holder holds: that of a local in `frame`, or `this` for `self`; null if the local holds no pointer.
+/// The pointer that a holder holds: a local's pointer in `frame`, or `this` if the holder is `self`. The result is null if the local holds
+/// no pointer.
 #[inline(always)]
 pub fn holder_pointer_over(this: Ptr, frame: &[Stored], holder: Holder) -> Ptr
     ensures { (buffers : List Buffer) →
@@ -57,10 +58,10 @@ pub fn has_words(heap: &DebugHeap, ptr: Ptr, index: u8) -> bool
     }
 }
 
-/// The pointer in a field of an object; null if `object` names no object of the class, or there is no such field.
+/// The pointer in a field of an object; null if `object` names no object of the class, or the class has no field with this index.
 ///
-/// An object is made with room for all fields of its class, and a script names no field that the class doesn't have. So the field is always
-/// there in a run of a script that was read.
+/// An object is made with room for all fields of its class, and a script that was read names only fields that the class has. So an object
+/// of the class always has the field in a run of such a script.
 #[inline(never)]
 fn field_over(script: &Script, heap: &DebugHeap, object: Ptr, class: u16, index: u8) -> Ptr
     ensures { result
@@ -78,7 +79,7 @@ fn field_over(script: &Script, heap: &DebugHeap, object: Ptr, class: u16, index:
     }
 }
 
-/// The value of a pointer operand, over the locals of a frame; null if the operand names no pointer.
+/// The value of a pointer operand in a frame; null if the operand names no pointer.
 #[inline(always)]
 pub fn pointer_over(context: ReadContext, frame: &[Stored], operand: Pointer) -> Ptr
     ensures { (buffers : List Buffer) →

@@ -1,4 +1,5 @@
-//! What raises a panic, for callers that explain a run. Contracts say what raised a panic only where a TRAP, `main` or a call ends.
+//! What raises a panic, for callers that explain a run. No contract says what raised a panic, except for panics at the end of a TRAP, of
+//! `main` or of a call.
 
 use wb_heap_model::heap::Panic;
 
@@ -7,8 +8,7 @@ use wb_heap_model::heap::Panic;
 pub enum Raiser {
     /// The statement begun last.
     Statement,
-    /// The statement begun last, by a field among its operands: the holder of the field names no live cell, or no object of the field's
-    /// class.
+    /// A field among the operands of the statement begun last: the field's holder names no live cell, or no object of the field's class.
     Holder,
     /// The end of a TRAP.
     TrapEnd,
@@ -25,7 +25,7 @@ pub enum Raiser {
 pub struct Raised {
     pub panic: Panic,
     pub raiser: Raiser,
-    /// How many bodies were running: 1 in `main`, and 0 at the end of `main`. At a release, the destructor that ended before it isn't
-    /// counted.
+    /// How many bodies were running: 1 in `main`, and 0 at the end of `main`. If the release of an object panicked, the object's destructor
+    /// isn't counted, because the destructor had ended.
     pub depth: u32,
 }

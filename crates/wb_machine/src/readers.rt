@@ -1,5 +1,5 @@
-//! Readers for callers that watch a run turn by turn: the live cells, the committed length, the open marks, and the steps. Contracts state
-//! each answer in terms of the machine's view. Nothing here takes a machine turn.
+//! Functions that read a run's live cells, committed length, open marks and steps, for callers that watch the run turn by turn. Contracts
+//! state each result in terms of the machine's view. No function here takes a machine turn.
 
 ghost use Rattle.std.specs.Prelude.{◌≡◌, length};
 ghost use Rattle.wb_heap_model.specs.LimitedHeap.{next_live_of};
@@ -9,10 +9,10 @@ use crate::machine::Machine;
 use wb_heap_model::heap::Header;
 
 impl<'a> Machine<'a> {
-    /// The first live cell that begins at the place `from`, in bytes, or above it; `None` if there is none. The cleanup stack's own cell is
-    /// one of the cells.
+    /// The first live cell that begins at or above the place `from`, in bytes; `None` if there is no such cell. The cleanup stack's own
+    /// cell counts as a live cell.
     ///
-    /// Called for place 0, and then for the end of each cell that it returned, it returns every live cell in order of place.
+    /// A caller gets every live cell in order of place by a call for place 0 and further calls, each for the end of the last returned cell.
     pub fn next_live(&self, from: u32) -> Option<Header>
         ensures { result ≡ next_live_of from self.now.live }
     {

@@ -1,5 +1,5 @@
-//! Panics of a statement's pointer operands, which are found before the statement is carried out: an operand panics if it is a field whose
-//! holder names no live cell, or no object of the class that the holder is declared with. Nothing here changes a state.
+//! The panics of a statement's pointer operands. These panics are found before the statement is carried out. An operand panics if it is a
+//! field, and the field's holder names no live cell, or no object of the holder's declared class. No function here changes a state.
 
 ghost use Rattle.std.specs.Prelude.{◌≡◌, [], ◌∷◌, ◌++◌};
 ghost use Rattle.wb_tree.specs.declared.script.Statement.TheViews.{out-Statement};
@@ -12,9 +12,9 @@ use wb_basics::items::Items;
 use wb_heap_model::heap::{Kind, Panic, Ptr};
 use wb_tree::script::{Argument, Condition, Pointer, Readable, Statement, Writable};
 
-/// Panics of single operands.
+/// The panics of single operands.
 impl State {
-    /// The panic of a field of `object` that is read or written; `None` if `object` names an object of this class.
+    /// The panic of reading or writing a field of `object`; `None` if `object` names an object of this class.
     #[cold]
     #[inline(never)]
     fn object_refusal(&self, object: Ptr, class: u16) -> Option<Panic>
@@ -27,8 +27,8 @@ impl State {
         }
     }
 
-    /// The panic of a pointer operand; `None` if it has none. Only a field can panic, and few operands are fields: so fields are tested in
-    /// a function of their own, which isn't inlined.
+    /// The panic of a pointer operand; `None` if the operand doesn't panic. Only a field can panic, and few operands are fields. So a
+    /// separate function, which isn't inlined, tests fields.
     #[inline(always)]
     pub(crate) fn pointer_refusal(&self, operand: &Pointer) -> Option<Panic>
         ensures refused { result ≡ pointer_refusal self.now operand.now }
@@ -43,7 +43,7 @@ impl State {
         }
     }
 
-    /// The panic of the first of two pointer operands, or else that of the second.
+    /// The panic of the pointer operand `one`; if `one` doesn't panic, the panic of `other`; `None` if neither panics.
     #[inline(always)]
     fn either_refusal(&self, one: &Pointer, other: &Pointer) -> Option<Panic>
         ensures { result ≡ first_refusal self.now (one.now ∷ other.now ∷ []) }
@@ -54,7 +54,7 @@ impl State {
         }
     }
 
-    /// The panic of the pointer in a text operand that can be changed.
+    /// The panic of a text operand that can be changed; `None` if the operand is a buffer, or its pointer doesn't panic.
     #[inline(always)]
     fn target_refusal(&self, target: &Writable) -> Option<Panic>
         ensures { result ≡ first_refusal self.now (of_writable target.now) }
@@ -65,7 +65,7 @@ impl State {
         }
     }
 
-    /// The panic of the pointer in a text operand that can be read.
+    /// The panic of a text operand that can be read; `None` if the operand has no pointer, or its pointer doesn't panic.
     #[inline(never)]
     fn readable_refusal(&self, text: &Readable) -> Option<Panic>
         ensures { result ≡ first_refusal self.now (of_readable text.now) }
@@ -76,7 +76,8 @@ impl State {
         }
     }
 
-    /// The panic of a text operand that is to be changed, or else that of the one that it is changed by.
+    /// The panic of `target`, the text operand to be changed; if `target` doesn't panic, the panic of `text`, the text operand that changes
+    /// it; `None` if neither panics.
     #[inline(never)]
     fn edit_refusal(&self, target: &Writable, text: &Readable) -> Option<Panic>
         ensures { result ≡ first_refusal self.now (of_writable target.now ++ of_readable text.now) }
@@ -87,7 +88,7 @@ impl State {
         }
     }
 
-    /// The panic of a condition's operand.
+    /// The panic of a condition's pointer operand; `None` if the condition has no such operand, or the operand doesn't panic.
     #[inline(always)]
     pub(crate) fn condition_refusal(&self, condition: &Condition) -> Option<Panic>
         ensures { result ≡ first_refusal self.now (of_condition condition.now) }
@@ -99,7 +100,7 @@ impl State {
         }
     }
 
-    /// The panic of an argument.
+    /// The panic of an argument; `None` if the argument doesn't panic. Only an argument that is a pointer can panic.
     #[inline(always)]
     fn argument_refusal(&self, argument: &Argument) -> Option<Panic>
         ensures { result ≡ first_refusal self.now (of_arguments (argument.now ∷ [])) }
@@ -110,7 +111,7 @@ impl State {
         }
     }
 
-    /// The first panic among the arguments of a call, from left to right.
+    /// The first panic among the arguments of a call, from left to right; `None` if no argument panics.
     #[inline(always)]
     fn arguments_refusal(&self, arguments: &[Argument]) -> Option<Panic>
         ensures { result ≡ first_refusal self.now (of_arguments arguments.now) }
@@ -124,7 +125,7 @@ impl State {
         None
     }
 
-    /// The first panic among the arguments of a call, from left to right.
+    /// The first panic among the arguments of a call, from left to right; `None` if no argument panics.
     #[inline(always)]
     pub(crate) fn call_refusal(&self, arguments: &Items<Argument>) -> Option<Panic>
         ensures { result ≡ first_refusal self.now (of_arguments arguments.now) }
@@ -133,9 +134,9 @@ impl State {
     }
 }
 
-/// Panics of whole statements.
+/// The panics of whole statements.
 impl State {
-    /// The first panic among the operands of a statement, from left to right, its target among them; `None` if none panics.
+    /// The first panic among the operands of a statement, from left to right; `None` if no operand panics. The target counts as an operand.
     #[inline(always)]
     pub fn operands_refusal(&self, statement: &Statement) -> Option<Panic>
         ensures { result ≡ operands_refusal self.now (out-Statement statement.now) }

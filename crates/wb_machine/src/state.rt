@@ -1,5 +1,5 @@
-//! The state that all bodies of a running script share. What each statement does with the state is in files by subject, and what a run has
-//! still to do is in `control`.
+//! The state that all bodies of a running script share. The effects of statements on the state are in other files, by subject. The file
+//! `control` holds what a run still has to do.
 
 ghost use Rattle.std.specs.Prelude.{◌≡◌, ◌+◌, ◌^◌, ◌<◌, ◌↔◌, [], length, false, true, IfOk, OnOk, IsSome, IsTrue, Some};
 ghost use Rattle.std.specs.List.{list_all};
@@ -48,8 +48,8 @@ pub struct State {
     pub steps: u32,
 }
 
-/// Written by hand, so that a proof about a function that drops such a value has a single call there, and only this function goes over the
-/// fields.
+/// This `drop` is written by hand, so that only this function goes over the fields. In a proof about a function that drops a `State`, the
+/// drop is then a single call.
 impl Drop for State {
     fn drop(self) {
         let State {
@@ -79,7 +79,7 @@ impl Model for State {
 }
 
 impl State {
-    /// The state before the first attempt, of a run that keeps a trace: a line for each attempt.
+    /// The state of a run before its first attempt. The run keeps a trace, which has a line for each attempt.
     pub fn new(alloc: Global, rule: Rule, shape: Shape) -> Result<State, DebugFault>
         ensures ok { IfOk result (λ state. state ≡ first_state false rule shape) }
         ensures shape { (result ≡ Err DebugFault.BadShape) ↔ (is_shape shape ≡ false) }
@@ -87,7 +87,8 @@ impl State {
         Ok(over_heap(alloc, DebugHeap::new(alloc, rule, shape)?))
     }
 
-    /// The state before the first attempt, of a run without a limit that keeps its rises and no trace.
+    /// The state, before the first attempt, of a run without a limit. Instead of a trace, the run keeps its rises: the granted attempts
+    /// whose cells end past the ends of all cells that were granted earlier.
     pub fn new_rises(alloc: Global, shape: Shape) -> Result<State, DebugFault>
         ensures ok { IfOk result (λ state. state ≡ first_state true Unlimited shape) }
         ensures shape { (result ≡ Err DebugFault.BadShape) ↔ (is_shape shape ≡ false) }
@@ -95,8 +96,8 @@ impl State {
         Ok(over_heap(alloc, DebugHeap::new_rises(alloc, shape)?))
     }
 
-    /// Copies the state: what is done to one of the two changes nothing in the other. The copy's heap takes the memory of `spare`, if there
-    /// is one, and what `spare` held is lost; all else gets memory of its own.
+    /// Copies the state: changing the state or its copy doesn't change the other. If `spare` is given, the copy's heap takes the memory of
+    /// `spare`, and what `spare` held is lost. All other parts of the copy get memory of their own.
     pub fn try_copy_over(&self, spare: Option<Heap>) -> Result<State, NoMemory>
         ensures { IfOk result (λ copy. copy ≡ self.now) }
     {
@@ -111,8 +112,8 @@ impl State {
         })
     }
 
-    /// Sets another rule for the attempts to come. Neither the old rule nor the new one is a limit, and of the attempts made so far both
-    /// make the same ones fail.
+    /// Sets another rule for the attempts to come. Neither the old rule nor the new rule may be a limit, and both rules must agree on which
+    /// of the attempts made so far fail.
     pub fn set_rule(&mut self, rule: Rule)
         requires lines { keeps_rises self.old.debug ≡ false }
         requires same { SameSoFar rule self.old.debug.rule self.old.debug.attempts }
@@ -144,7 +145,7 @@ impl State {
         self.steps += 1;
     }
 
-    /// Adds the frame of `main`, with its locals.
+    /// Adds the frame of `main`, with the locals of `main`.
     pub fn enter(&mut self, script: &Script, locals: &[Local]) -> Result<(), NoMemory>
         requires none { self.old.locals ≡ [] }
         requires no_caller { self.old.callers ≡ [] }
@@ -170,8 +171,8 @@ impl State {
         self.this
     }
 
-    /// Adds a frame for a body that is called. `this` is the object whose body it is, or null, and `call_arguments` are what the parameters
-    /// get. Returns where the caller's frame begins among the locals.
+    /// Adds a frame for a body that is called. `this` is the object whose body is called, or null. The parameters get their values from
+    /// `call_arguments`. Returns where the caller's frame begins among the locals.
     pub fn call(
         &mut self,
         script: &Script,
@@ -195,8 +196,8 @@ impl State {
         Ok(caller)
     }
 
-    /// Drops the frame of a body that has ended. The caller's frame, which begins at `base` and runs a body of `this`, is the innermost
-    /// again.
+    /// Drops the frame of a body that has ended. The caller's frame, which begins at `base`, becomes the innermost frame again. `this` is
+    /// the object whose body the caller runs, or null.
     pub fn end_call(&mut self, this: Ptr, base: usize)
         ensures { self.new ≡ called_back self.old this base }
     {
@@ -204,7 +205,7 @@ impl State {
         self.this = this;
     }
 
-    /// The value of a pointer operand, over the innermost frame.
+    /// The value of a pointer operand in the innermost frame.
     #[inline(always)]
     pub fn pointer(&self, script: &Script, operand: Pointer) -> Ptr
         ensures { result ≡ pointer_read script.now self.now operand }
@@ -225,7 +226,7 @@ impl State {
         self.locals.holder_pointer(self.this, holder)
     }
 
-    /// The value of a number operand, over the innermost frame.
+    /// The value of a number operand in the innermost frame.
     #[inline(always)]
     pub fn number(&self, operand: Number) -> i32
         ensures { result ≡ number_read self.now operand }
@@ -258,14 +259,14 @@ impl State {
         }
     }
 
-    /// The live cells except the cleanup stack's, in order of place.
+    /// The live cells in order of place, except the cleanup stack's own cell.
     pub fn leaks(&self) -> Result<Leaks, NoMemory>
         ensures { IfOk result (λ leaks. leaks ≡ leaks_at_end self.now) }
     {
         self.heap.leaks()
     }
 
-    /// The result of a run that kept its rises and no trace, by its ending and its leaks.
+    /// The result of a run that kept its rises instead of a trace. The result is made from the run's ending and its leaks.
     pub fn finish_rises(self, ending: Ending, leaks: Leaks) -> RisesResult
         requires { IsSome self.debug.rises }
         ensures outcome { result.outcome ≡ outcome_by ending leaks }
@@ -288,7 +289,7 @@ impl State {
         }
     }
 
-    /// Gives the state up and returns its heap, whose memory a copy of another state may take.
+    /// Gives the state up and returns its heap, so that a copy of another state can take the heap's memory.
     pub fn into_heap(self) -> Heap {
         let State {
             heap,
@@ -302,7 +303,7 @@ impl State {
         heap.into_trace_and_heap().1
     }
 
-    /// What remains of a run, by its ending and its leaks.
+    /// What remains of a run with this ending and these leaks.
     pub fn finish(self, ending: Ending, leaks: Leaks) -> Finished
         ensures { result.result ≡ run_result_by ending leaks self }
     {
@@ -329,7 +330,7 @@ impl State {
     }
 }
 
-/// The state before the first attempt, over a heap that wasn't asked for anything yet.
+/// The state before the first attempt, with a heap in which no attempt was made yet.
 fn over_heap(alloc: Global, heap: DebugHeap) -> State
     requires { heap ≡ first_debug_of (keeps_rises heap) heap.rule heap.shape }
     ensures { result ≡ first_state (keeps_rises heap) heap.rule heap.shape }
@@ -345,7 +346,7 @@ fn over_heap(alloc: Global, heap: DebugHeap) -> State
     }
 }
 
-/// The outcome of a run with this ending, which lists the leaks unless the run was stopped.
+/// The outcome of a run with this ending. The outcome lists the leaks unless the run was stopped by a panic, a cut or a failed attempt 1.
 fn outcome_by(ending: Ending, leaks: Leaks) -> Outcome
     ensures { result ≡ outcome_by ending leaks }
 {

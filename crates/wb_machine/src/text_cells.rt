@@ -1,4 +1,4 @@
-//! Statements that allocate and reallocate texts in cells, and edits of such texts.
+//! Statements that allocate and reallocate cells for texts, and edits of the texts in cells.
 
 ghost use Rattle.std.specs.Prelude.{◌≡◌, ◌+◌, ◌*◌, ◌<◌, ◌≤◌, None, Some, length, IfOk, IfSome, OnErr, OnOk};
 ghost use Rattle.wb_basics.specs.declared.limits.TheConstants.{MOST_UNITS};
@@ -25,8 +25,8 @@ use wb_text::Base;
 use wb_tree::script::{Number, Pointer, Refusal, Script};
 
 impl State {
-    /// Reallocates the cell of a text to hold `units` units, which is an attempt if the cell must become longer. If the workbench runs out
-    /// of memory, nothing changes.
+    /// Reallocates the cell of a text to hold `units` units. If the cell must become longer, reallocating it is an attempt. If the
+    /// workbench runs out of memory, nothing changes.
     fn remake(&mut self, ptr: Ptr, units: u32) -> Result<Gave, NoMemory>
         requires text { text_refusal (cell_at ptr self.old.debug.heap.row) ≡ None }
         requires fits { length (text_at ptr self.old.debug) ≤ units }
@@ -42,7 +42,7 @@ impl State {
         wb_hbuf::remake(&mut self.heap, ptr, units)
     }
 
-    /// Allocates a cell for an empty text of at most `units` units, which the target gets.
+    /// Allocates a cell with room for a text of `units` units, and gives the target a pointer to the cell. The text is empty at first.
     pub fn new_text(
         &mut self,
         target: Pointer,
@@ -63,7 +63,8 @@ impl State {
         Ok(self.give(&target, refusal, gave))
     }
 
-    /// Reallocates the source's text for at most `units` units. The target gets its pointer, or null if the attempt fails.
+    /// Reallocates the cell of the source's text to hold `units` units. The target gets a pointer to the cell, or null if the attempt
+    /// fails.
     pub fn realloc_text(
         &mut self,
         script: &Script,
@@ -96,7 +97,7 @@ impl State {
 
 /// Edits of the text in a cell. An edit that panics changes nothing.
 impl State {
-    /// Changes the text by the units of a source.
+    /// Changes the text in a cell with the units of a source, as `change` says.
     pub fn edit_cell(&mut self, ptr: Ptr, change: Edit, source: Source) -> Result<(), Panic>
         requires text { text_refusal (cell_at ptr self.old.debug.heap.row) ≡ None }
         requires source { IsSource self.old.debug source }
@@ -111,7 +112,7 @@ impl State {
         wb_hbuf::edit(&mut self.heap, ptr, change, source)
     }
 
-    /// Deletes `count` units of the text, from `position` on.
+    /// Deletes `count` units of the text in a cell, from `position` on.
     pub fn delete_in_cell(&mut self, ptr: Ptr, position: u32, count: u32) -> Result<(), Panic>
         requires { text_refusal (cell_at ptr self.old.debug.heap.row) ≡ None }
         ensures answer { result
@@ -125,7 +126,7 @@ impl State {
         wb_hbuf::delete(&mut self.heap, ptr, position, count)
     }
 
-    /// Gives the text another length, in units.
+    /// Sets the length of the text in a cell, in units.
     pub fn set_cell_length(&mut self, ptr: Ptr, length: u32) -> Result<(), Panic>
         requires { text_refusal (cell_at ptr self.old.debug.heap.row) ≡ None }
         ensures answer { result ≡ answer_of

@@ -17,7 +17,7 @@ use wb_heap_model::heap::{Kind, Panic};
 use wb_text::{Base, Buf, View};
 use wb_tree::script::{Readable, Script, Writable};
 
-/// Whether a cell holds a text.
+/// Whether a cell of this kind holds a text.
 pub fn is_text(kind: Kind) -> bool
     ensures { result ≡ is_text kind }
 {
@@ -27,7 +27,7 @@ pub fn is_text(kind: Kind) -> bool
     }
 }
 
-/// Whether two bases name the same text that can be changed.
+/// Whether two bases name the same buffer or the same cell. For two literals the result is `false`, because a literal can't be changed.
 pub fn is_same_base(one: Base, other: Base) -> bool
     ensures { result ≡ is_same_base one other }
 {
@@ -62,7 +62,7 @@ impl State {
         }
     }
 
-    /// The panic of a base: of a cell that is gone, or that holds no text; `None` for any other base.
+    /// The panic of a base, if the base is a cell that is gone or holds no text; `None` for any other base.
     pub fn refusal(&self, base: Base) -> Option<Panic>
         ensures { result ≡ base_refusal self.now base }
     {
@@ -104,7 +104,7 @@ impl State {
         }
     }
 
-    /// A view, or the panic of its base.
+    /// The view `window`, or the panic of the view's base.
     fn view_or_refusal(&self, window: Window) -> Result<Window, Panic>
         ensures { result ≡ unless_gone (base_refusal self.now window.base) window }
     {
@@ -126,7 +126,7 @@ impl State {
         }
     }
 
-    /// A view of what a readable text shows, or the panic of its base.
+    /// A view of what a readable text shows, or the panic of the text's base.
     pub fn window(&self, script: &Script, text: Readable) -> Result<Window, Panic>
         requires { IsTrue (is_script script.now) }
         ensures { result ≡ window_found script.now self.now text }
@@ -138,7 +138,8 @@ impl State {
         }
     }
 
-    /// The units that a view shows, as the source of an edit or of a printed line. `buf` is the buffer of the view's base, or a copy of it.
+    /// The units that a view shows, as the source of an edit or of a printed line. `buf` is the buffer of the view's base, or a copy of
+    /// that buffer.
     pub fn source<'a>(&self, script: &'a Script, buf: &'a Buf, view: View) -> Source<'a>
         requires base { base_refusal self.now view.base ≡ None }
         requires buf { buf.now ≡ buffer_under self.now view.base }

@@ -24,7 +24,7 @@ use wb_heap_model::heap::{Panic, Ptr};
 use wb_text::{Base, Buf};
 use wb_tree::script::{Number, Readable, Script, Writable};
 
-/// How a statement ends whose edit gave this answer: plainly, or with the edit's panic.
+/// How a statement ends after an edit with this result: plainly, or with the edit's panic.
 fn ending_of(answer: Result<(), Panic>) -> Ending
     ensures { result ≡ ending_by answer }
 {
@@ -34,7 +34,7 @@ fn ending_of(answer: Result<(), Panic>) -> Ending
     }
 }
 
-/// Edits of texts that can be changed, which are in buffers and in cells.
+/// Edits of the texts that can be changed. These texts are in buffers and in cells.
 impl State {
     /// A copy of the buffer that a base names; an empty buffer if the base is no buffer.
     fn buffer_copy(&self, base: Base) -> Buf
@@ -46,7 +46,7 @@ impl State {
         }
     }
 
-    /// Changes the text in a cell by the units that a view shows.
+    /// Changes the text in a cell, as `change` says, with the units that a view shows.
     fn write_cell(&mut self, script: &Script, ptr: Ptr, change: Edit, window: Window) -> Ending
         requires target { base_refusal self.old (B.Cell ptr) ≡ None }
         requires source { base_refusal self.old window.base ≡ None }
@@ -67,7 +67,7 @@ impl State {
         ending_of(self.edit_cell(ptr, change, source))
     }
 
-    /// Changes a buffer by the units that a view shows.
+    /// Changes the text in a buffer, as `change` says, with the units that a view shows.
     fn write_buffer(&mut self, script: &Script, index: u8, change: Edit, window: Window) -> Ending
         requires source { base_refusal self.old window.base ≡ None }
         ensures written { IsWritten self.old (B.Local index)
@@ -82,7 +82,7 @@ impl State {
         ending_of(self.locals.edit_buffer(index, &self.heap, change, source))
     }
 
-    /// Changes a text by the units that a view shows.
+    /// Changes a text, as `change` says, with the units that a view shows.
     fn write(&mut self, script: &Script, to: Base, change: Edit, window: Window) -> Ending
         requires writable { IsTrue (is_writable_base to) }
         requires target { base_refusal self.old to ≡ None }
@@ -100,7 +100,7 @@ impl State {
         }
     }
 
-    /// Copies a text to another, or appends it, as `change` says.
+    /// Copies a text to the target, or appends the text to the target's text, as `change` says.
     pub fn edit(
         &mut self,
         script: &Script,
@@ -126,7 +126,7 @@ impl State {
         }
     }
 
-    /// Inserts a text into another, before the unit at a position.
+    /// Inserts a text into the target's text, before the unit at a position.
     pub fn insert(
         &mut self,
         script: &Script,
@@ -158,7 +158,7 @@ impl State {
     }
 }
 
-/// Deletions, and lengths that are set.
+/// Statements that delete units of a text, or set the length of a text.
 impl State {
     /// Deletes `count` units of a text, from `position` on.
     fn take_out(&mut self, to: Base, position: u32, count: u32) -> Ending
@@ -177,7 +177,7 @@ impl State {
         }
     }
 
-    /// Gives a text another length, in units.
+    /// Sets the length of a text, in units.
     fn cut_to(&mut self, to: Base, length: u32) -> Ending
         requires writable { IsTrue (is_writable_base to) }
         requires target { base_refusal self.old to ≡ None }
@@ -192,7 +192,7 @@ impl State {
         }
     }
 
-    /// Carries out a deletion: takes `count` units of a text out, from a position on.
+    /// Carries out a deletion: deletes `count` units of a text, from a position on.
     pub fn delete_text(
         &mut self,
         script: &Script,
@@ -217,7 +217,7 @@ impl State {
         self.take_out(to, position, count)
     }
 
-    /// Carries out the statement that gives a text another length, in units.
+    /// Carries out the statement that sets the length of a text, in units.
     pub fn set_length(&mut self, script: &Script, target: Writable, length: Number) -> Ending
         ensures set { IsLengthSet self.old (base_named script.now self.old target)
             (number_read self.old length) result self.new }

@@ -12,22 +12,22 @@ use wb_heap_model::heap::Ptr;
 use wb_tree::script::{Number, Pointer, Readable, Script, Statement, Writable};
 
 impl<'a> Machine<'a> {
-    /// The statement begun last; `None` before the first.
+    /// The statement begun last; `None` before the first statement.
     pub fn statement(&self) -> Option<&'a Statement> {
         self.control.statement()
     }
 
-    /// The statement that the next machine turn begins if the budget lasts; `None` if the machine turn begins none.
+    /// The statement that the next machine turn begins if the budget lasts; `None` if the turn begins no statement.
     pub fn next_statement(&self) -> Option<&'a Statement> {
         self.control.next_statement()
     }
 
-    /// How many bodies were running when the last statement began, 1 in `main`; 0 before the first statement.
+    /// How many bodies were running when the last statement began: 1 in `main`, and 0 before the first statement.
     pub fn depth(&self) -> u32 {
         self.control.depth()
     }
 
-    /// The panic that ended the run; `None` if none did.
+    /// The panic that ended the run; `None` if no panic ended it.
     pub fn raised_panic(&self) -> Option<Raised> {
         self.control.raised_panic()
     }
@@ -71,7 +71,7 @@ impl<'a> Machine<'a> {
 }
 
 impl State {
-    /// How many bytes can be used of the cell that an operand names; `None` if it names no live cell.
+    /// How many bytes of the cell that an operand names can be used; `None` if the operand names no live cell.
     fn usable(&self, script: &Script, operand: Pointer) -> Option<u32>
         ensures { result ≡ option_map (λ c. usable_of c.head)
             (cell_at (pointer_read script.now self.now operand) self.now.debug.heap.row) }

@@ -1,4 +1,4 @@
-//! Statements that read texts: views of parts, lengths, maxima, and what is printed.
+//! Statements that read texts: they make views of parts, get lengths and maxima, and print texts.
 
 ghost use Rattle.std.specs.Prelude.{◌≡◌, ◌^◌, ◌<◌, None, IfOk, OnOk, IsTrue};
 ghost use Rattle.wb_meaning.specs.Operands.{not_negative};
@@ -116,7 +116,7 @@ impl State {
     }
 }
 
-/// Lengths, maxima, and texts that are printed.
+/// Statements that get the length or the maximum of a text, or print a text.
 impl State {
     /// A number local gets the length of a text, in units.
     pub fn get_length(&mut self, script: &Script, local: u8, text: Readable) -> Ending

@@ -1,4 +1,4 @@
-//! Views: parts of texts that a script names.
+//! Views. A view shows a part of a text.
 
 ghost use Rattle.std.specs.Prelude.{◌≡◌, ◌+◌, ◌^◌, ◌<◌};
 ghost use Rattle.wb_heap_model.specs.Texts.{left_part, right_part, mid_part, view_of_part};
@@ -57,7 +57,7 @@ impl Window {
         self.view
     }
 
-    /// The first `count` units of the view; `Panic::POSITION_OUT_OF_BOUNDS` if it has fewer.
+    /// The first `count` units of the view; `Panic::POSITION_OUT_OF_BOUNDS` if the view has fewer units.
     pub fn left(self, count: u32) -> Result<Window, Panic>
         ensures { result ≡ view_of_part self (left_part self.length count) }
     {
@@ -65,7 +65,7 @@ impl Window {
         Ok(Window { view })
     }
 
-    /// The last `count` units of the view; `Panic::POSITION_OUT_OF_BOUNDS` if it has fewer.
+    /// The last `count` units of the view; `Panic::POSITION_OUT_OF_BOUNDS` if the view has fewer units.
     pub fn right(self, count: u32) -> Result<Window, Panic>
         ensures { result ≡ view_of_part self (right_part self.length count) }
     {
@@ -73,7 +73,7 @@ impl Window {
         Ok(Window { view })
     }
 
-    /// `count` units of the view from `position` on; `Panic::POSITION_OUT_OF_BOUNDS` if it has fewer from there on.
+    /// `count` units of the view from `position` on; `Panic::POSITION_OUT_OF_BOUNDS` if the view has fewer units from `position` on.
     pub fn mid(self, position: u32, count: u32) -> Result<Window, Panic>
         ensures { result ≡ view_of_part self (mid_part self.length position count) }
     {

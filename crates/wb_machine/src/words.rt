@@ -29,7 +29,7 @@ pub fn is_raw(kind: Kind) -> bool
 }
 
 impl State {
-    /// Puts a word into a Raw cell.
+    /// Puts a value into a word of a Raw cell.
     fn set_word(&mut self, ptr: Ptr, word: u32, value: u32)
         requires within { word < length (payload_of ptr self.old.debug.heap.row) }
         requires raw { IfSome (cell_at ptr self.old.debug.heap.row) (λ c.
@@ -69,7 +69,7 @@ impl State {
         Ending::GoesOn
     }
 
-    /// A number local gets a word, as a signed number.
+    /// Puts a word into a number local, as a signed number.
     fn set_loaded(&mut self, local: u8, word: u32)
         ensures stored { self.new ≡ stored self.old local (number (signed word)) }
         ensures keeps { KeepsCount self.old self.new }
@@ -77,7 +77,7 @@ impl State {
         self.set(local, Slot::Number(word.cast_signed()));
     }
 
-    /// A number local gets a word of a Raw cell, as a signed number.
+    /// Puts a word of a Raw cell into a number local, as a signed number.
     #[inline(never)]
     pub fn load(&mut self, script: &Script, local: u8, pointer: &Pointer, index: &Number) -> Ending
         ensures { CarriesOut self.old (load_effect self.old local

@@ -1,5 +1,5 @@
-//! What is done once the answer is written, each part once and in this order: writing the steps of the run, explaining the answer, and
-//! putting its picture and then its log into files. How each part is done is elsewhere.
+//! Does everything that remains to be done when the answer is written, each part once. First the steps of the run are written, then the
+//! answer is explained. Then the picture is put into its file, and at last the log into its own. Other modules say how each part is done.
 
 ghost use Rattle.wb_main.specs.Afterwards.{IsFinished};
 ghost use Rattle.workbench.specs.declared.program.Exit.{Exit};
@@ -8,7 +8,7 @@ use crate::log::{LogFiles, put_log};
 use crate::picture::{PictureFiles, put_picture};
 use workbench::program::Exit;
 
-/// What is put into files beside the report; `None` for what isn't.
+/// The texts to put into files, in addition to the report. A text is `None` if it isn't to be put into a file.
 #[derive(Drop)]
 pub struct Beside {
     pub picture: Option<String>,
@@ -22,7 +22,7 @@ impl Beside {
     };
 }
 
-/// The receiver of what comes after an answer.
+/// The receiver of the calls that come after an answer.
 pub trait Afterwards: PictureFiles + LogFiles {
     /// What writing the steps of a run does, as a relation between the receiver before, the answer, and the receiver after.
     ghost steps: { Self → Exit → Self → Type 0 };
@@ -30,17 +30,17 @@ pub trait Afterwards: PictureFiles + LogFiles {
     /// What explaining an answer does, as a relation between the receiver before, the answer, and the receiver after.
     ghost explains: { Self → Exit → Self → Type 0 };
 
-    /// Writes the steps of the run, if the command asks for them and there is a report.
+    /// Writes the steps of the run, if the command asks for these steps and there is a report.
     fn put_steps(&mut self, exit: &Exit)
         ensures { steps self.old exit.now self.new };
 
-    /// Explains the answer, and returns what is put into files.
+    /// Explains the answer, and returns the texts to put into files.
     fn explain(&mut self, exit: &Exit) -> Beside
         ensures { explains self.old exit.now self.new };
 }
 
-/// Does all that comes after an answer. Returns the exit status: that of the answer, or `READ_OR_WRITE_FAULT` if the picture or the log
-/// can't be put into its file.
+/// Makes all calls that come after an answer. Returns the exit status: the answer's status, or `READ_OR_WRITE_FAULT` if the picture or the
+/// log can't be put into its file.
 pub fn finish<A: Afterwards>(exit: &Exit, afterwards: &mut A) -> u8
     ensures { IsFinished A.steps A.explains A.puts A.logs exit.now
         afterwards.old afterwards.new result }

@@ -1,5 +1,5 @@
-//! What a command says of its script, and what its answer names: the name of the script's file, how many steps a run may take, and the
-//! failure or the heap whose run the report shows.
+//! Values that a command gives for its script, and values that its answer names: the name of the script's file, how many steps a run may
+//! take, and the rule of the run in the report.
 
 ghost use Rattle.std.specs.Prelude.{◌≡◌, ◌≤◌, IfOk};
 ghost use Rattle.wb_main.specs.Asked.{rule_named, IsAsAsked};
@@ -13,7 +13,7 @@ use wb_history::RunParameters;
 use workbench::findings::Findings;
 use workbench::{Command, FileName, Search, Task};
 
-/// The name of standard input before the number of a line.
+/// The name that stands for standard input in messages, before the number of a line.
 const INPUT: &str = "<stdin>";
 
 /// Returns the name of the script in an explanation or a picture.
@@ -38,7 +38,7 @@ pub fn shown_name(name: &FileName) -> &str {
     }
 }
 
-/// Returns the command's budget, in steps, brought into its range: from 1 to `LARGEST_BUDGET`.
+/// Returns the command's budget, in steps, limited to the range from 1 to `LARGEST_BUDGET`.
 pub fn budget_of(command: &Command) -> u32
     ensures least { 1 ≤ result }
     ensures greatest { result ≤ LARGEST_BUDGET }
@@ -48,7 +48,7 @@ pub fn budget_of(command: &Command) -> u32
     command.budget.max(1).min(LARGEST_BUDGET)
 }
 
-/// Returns the parameters of the run under this rule, with the budget and the shape that the command asks for.
+/// Returns the parameters of a run with this rule, and with the budget and the shape that the command asks for.
 pub fn parameters_of(command: &Command, rule: Rule) -> RunParameters
     ensures asked { IsAsAsked command.now rule result }
     ensures least { 1 ≤ result.budget }
@@ -61,8 +61,7 @@ pub fn parameters_of(command: &Command, rule: Rule) -> RunParameters
     }
 }
 
-/// Returns the rule under which the run that a sweep's report names was made; `None` if the report names no run. The only error is that
-/// memory ran out.
+/// Returns the rule of the run that a sweep's report names; `None` if the report names no run. The only error is that memory ran out.
 pub fn rule_named(findings: &Findings) -> Result<Option<Rule>, NoMemory>
     ensures { IfOk result (λ rule. rule ≡ rule_named findings.now) }
 {
@@ -72,7 +71,7 @@ pub fn rule_named(findings: &Findings) -> Result<Option<Rule>, NoMemory>
     }
 }
 
-/// Returns what a task searches for among failures; `None` if it is no sweep and no check.
+/// Returns what a task searches for among failures; `None` if the task is neither a sweep nor a check.
 pub fn search_of(task: &Task) -> Option<Search> {
     match task {
         Task::Sweep(search, _) | Task::Check(search) => Some(*search),
@@ -80,7 +79,7 @@ pub fn search_of(task: &Task) -> Option<Search> {
     }
 }
 
-/// Returns what is known of a search that met more states than the command allows; `None` if the report isn't of such a search.
+/// Returns what is known of a search that met more states than the command allows; `None` if the report isn't about such a search.
 pub fn many_states(command: &Command, findings: &Findings) -> Option<ManyStates> {
     let fine = findings.fine?;
     let most = match search_of(&command.task)? {
@@ -94,7 +93,7 @@ pub fn many_states(command: &Command, findings: &Findings) -> Option<ManyStates>
     })
 }
 
-/// How many states the user may allow next, if this many weren't enough; `None` if no more can be allowed.
+/// How many states the user may allow next if `states` states weren't enough; `None` if the user can't allow more.
 fn more_states(states: u32) -> Option<u32> {
     if states < MOST_STATES {
         Some(states.saturating_mul(10).min(MOST_STATES))

@@ -1,4 +1,4 @@
-//! What explains an answer: the text on standard error, and the findings in it.
+//! The explanation of an answer: the text on standard error, and the findings in this text.
 
 ghost use Rattle.std.specs.Prelude.{IsTrue};
 ghost use Rattle.wb_tree.specs.Sound.{is_script};
@@ -26,8 +26,8 @@ use workbench::exit_status::NOTHING_FOUND;
 use workbench::findings::Findings;
 use workbench::{Command, Search, Task};
 
-/// Returns whether there is nothing to say of a report. For `size` and `check` there always is something; for other tasks there is if
-/// something was found, or if there is a run to explain all the same.
+/// Returns whether there is nothing to say of a report. For `size` and `check` there is always something to say. Of another task's report,
+/// there is something to say if something was found, if a run is to be explained, or if a shorter heap does better.
 pub fn has_nothing_to_say(answer: Answer<'_>) -> bool {
     match &answer.command.task {
         Task::Size | Task::Check(_) => false,
@@ -35,14 +35,15 @@ pub fn has_nothing_to_say(answer: Answer<'_>) -> bool {
     }
 }
 
-/// Whether nothing was found, and there is no run to explain all the same.
+/// Whether nothing was found, there is no run to explain, and no shorter heap does better than a longer one.
 fn is_found_nothing(answer: Answer<'_>) -> bool {
     answer.status == NOTHING_FOUND
         && !has_run_to_explain(&answer.command.task, answer.findings)
         && better_length(answer.findings).is_none()
 }
 
-/// The length of a heap in which the run does better than in a longer one; `None` if there is none, or if the report has no table of lengths.
+/// The length of a heap in which the run does better than in some longer heap. The result is `None` if there is no such length, or if the
+/// report has no table of lengths.
 fn better_length(findings: &Findings) -> Option<u32> {
     match &findings.ranges {
         Some(ranges) => longest_better(ranges.as_slice()),
@@ -50,8 +51,8 @@ fn better_length(findings: &Findings) -> Option<u32> {
     }
 }
 
-/// Returns why the script could not be read, or the report could not be written; empty if no fault was recorded. The only error is that
-/// memory ran out.
+/// Returns the text that says why the script could not be read, or why the report could not be written. The text is empty if no fault was
+/// recorded. The only error is that memory ran out.
 pub fn explain_fault(
     alloc: Global,
     command: &Command,
@@ -67,7 +68,7 @@ pub fn explain_fault(
     Ok(file_fault(alloc, name, deed, kind)?)
 }
 
-/// Returns what is explained of these runs. The only error is that memory ran out.
+/// Returns the explanation of these runs. The only error is that memory ran out.
 pub fn explain_runs(
     rt: &HostRuntime,
     answer: Answer<'_>,
@@ -94,9 +95,9 @@ pub fn explain_runs(
     Ok(said)
 }
 
-/// The text on what the report says of many runs: what shorter heaps refuse first, what heaps of every length show, or what all numbers
-/// show; empty if the report says none of these. For numbers, the run without failure is made once more up to the last of them, unless it was
-/// watched as a whole already.
+/// The text on what the report says of many runs. The report may say what shorter heaps refuse first, how runs end in heaps of every
+/// length, or how the run of each number ends. For any other report, the text is empty. The text on numbers needs the run without failure,
+/// up to the attempt with the last bad number. The run without failure is made once more, unless `runs` already holds the whole run.
 fn explain_all(
     alloc: Global,
     answer: Answer<'_>,
@@ -129,8 +130,8 @@ fn explain_all(
     }
 }
 
-/// The text on what shorter heaps refuse first and on what fills the heap, unless the command is to be brief, and on what all numbers show, by
-/// the run without failure.
+/// The text on what shorter heaps refuse first and on what fills the heap, unless the command asks for a brief text. The text on how the
+/// run of each number ends follows, if `numbers` is given. Both texts use the history of the run without failure.
 fn explain_plain(
     alloc: Global,
     answer: Answer<'_>,
@@ -154,7 +155,7 @@ fn explain_plain(
     Ok(found)
 }
 
-/// The text on what heaps of every length show.
+/// The text on how runs end in heaps of every length.
 fn explain_heaps(
     alloc: Global,
     command: &Command,
@@ -187,8 +188,8 @@ fn explain_heaps(
     )?)
 }
 
-/// Returns the kind of failure that the report lists, and how the run of each number ended; `None` if the report has no such list, or if
-/// fewer than two of its runs leak or panic, since a single such run is explained anyway.
+/// Returns the kind of failures that the report lists, and how the run of each number ended. The result is `None` if the report lists no
+/// numbers, or if fewer than two of the listed runs leak or panic. If only one run leaks or panics, it is explained anyway.
 fn numbers_to_explain<'a>(
     task: &Task,
     findings: &'a Findings,

@@ -14,7 +14,7 @@ use workbench::findings::Findings;
 use workbench::program::Exit;
 use workbench::{Command, Task};
 
-/// Standard error. After a write that fails, it takes no more rows.
+/// Standard error. After a write that fails, this sink takes no more rows.
 #[derive(Drop)]
 struct StandardError<'a> {
     rt: &'a HostRuntime,
@@ -26,8 +26,8 @@ impl<'a> RowSink for StandardError<'a> {
     }
 }
 
-/// Writes the steps of the run, if the command asks for them and the report could be written. If memory runs out, the remaining steps are
-/// left out.
+/// Writes the steps of the run, if the command asks for these steps and the report could be written. If memory runs out, the remaining
+/// steps are left out.
 pub fn put_steps(rt: &HostRuntime, exit: &Exit) {
     if let (Some(command), Some(findings)) = (&exit.command, &exit.findings)
         && let (Some(most), Task::Run(rule)) = (command.follow, &command.task)
@@ -41,7 +41,7 @@ pub fn put_steps(rt: &HostRuntime, exit: &Exit) {
     }
 }
 
-/// Writes the steps of the run under a rule, unless the script is rejected.
+/// Writes the steps of the run with this rule. Writes nothing if the script is rejected.
 fn follow_script(
     rt: &HostRuntime,
     command: &Command,

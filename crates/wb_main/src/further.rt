@@ -1,4 +1,5 @@
-//! The text on what `check` asks unasked if it found nothing. How each question is answered, and with how much work, is in `unasked`.
+//! The text on the additional questions that `check` asks if it found nothing. The module `unasked` answers these questions, and limits the
+//! work for them.
 
 ghost use Rattle.std.specs.Prelude.{IsTrue};
 ghost use Rattle.wb_tree.specs.Sound.{is_script};
@@ -16,12 +17,12 @@ use wb_history::{Keep, RunParameters, ScriptLines, watch_run};
 use wb_tree::script::Script;
 use workbench::Command;
 
-/// The questions that `check` asks unasked, in this order.
+/// The additional questions of `check`, in the order in which it asks them.
 const QUESTIONS: [Question; 3] = [Question::Persistent, Question::Sets, Question::Lengths];
 
-/// Returns what a check that found nothing finds unasked: the first question whose answer shows a leak or a panic, with its run, after the
-/// questions before it that stay open. If all questions are settled and none shows anything, the text says so. The only error is that
-/// memory ran out.
+/// Returns the text on the additional questions of a check that found nothing. The text lists the questions that stay open, up to the first
+/// question whose answer shows a leak or a panic. At its end, the text shows this answer and its run. If all questions are settled and no
+/// answer shows a leak or a panic, the text says this. The only error is that memory ran out.
 pub fn explain_unasked(
     rt: &HostRuntime,
     command: &Command,
@@ -60,7 +61,7 @@ pub fn explain_unasked(
     Ok(said)
 }
 
-/// The options of the command that asks this question by itself.
+/// The options of the command that asks only this question.
 fn options_for(command: &Command, question: Question) -> ShellOptions {
     let moving = command.shape.moving || question == Question::Sets;
     ShellOptions {
@@ -72,7 +73,7 @@ fn options_for(command: &Command, question: Question) -> ShellOptions {
     }
 }
 
-/// The text on the run that a verdict shows; empty if the verdict shows none. The only error is that memory ran out.
+/// The text on the run that a verdict shows; empty if the verdict shows no run. The only error is that memory ran out.
 fn explain_verdict(
     alloc: Global,
     command: &Command,
@@ -98,7 +99,8 @@ fn explain_verdict(
     }
 }
 
-/// The rule by which the attempts of a set fail: `Rule::Number` for a set of one attempt, and for an empty set, with number 0.
+/// The rule by which exactly the attempts of a set fail. For a set of one attempt it is `Rule::Number`, and for an empty set it is
+/// `Rule::Number` with number 0.
 fn rule_of_set(numbers: &Numbers) -> Result<Rule, NoMemory> {
     Ok(match numbers.as_slice() {
         [] => Rule::Number(0),

@@ -1,5 +1,5 @@
-//! Puts the SARIF log that a command asks for into its file, once the answer is written and explained. How the log gets into the file is in
-//! `whole_file`.
+//! Puts the SARIF log that a command asks for into its file, after the answer is written and explained. The module `whole_file` writes the
+//! file.
 
 ghost use Rattle.std.specs.Prelude.{◌≡◌, ◌≢◌, ℕ, List, Bool, IsSome, IfSome};
 ghost use Rattle.wb_main.specs.Log.{IsLogged, IsLogWanted};
@@ -10,8 +10,8 @@ use workbench::program::Exit;
 
 /// The files that logs are put into.
 pub trait LogFiles {
-    /// What putting a log into a file does, as a relation between the files before, the file's name, whether the log is in that file now or
-    /// was left out, and the files after.
+    /// What putting a log into a file does, as a relation between the files before, the file's name, the result of the call, and the files
+    /// after. The result is `true` if the log is in the file now or was left out.
     ghost logs: { Self → List ℕ → Bool → Self → Type 0 };
 
     /// Puts a log into the file with this name. Returns `false` if the log can't be put there.
@@ -19,8 +19,8 @@ pub trait LogFiles {
         ensures { logs self.old name.now result self.new };
 }
 
-/// Puts the log of a report into the file that the command names for it, and into no other file. Returns the exit status: `before`, or
-/// `READ_OR_WRITE_FAULT` if the log can't be put there.
+/// Puts the log of a report into the file that the command names for the log, and into no other file. Returns the exit status: `before`,
+/// the status so far, or `READ_OR_WRITE_FAULT` if the log can't be put there.
 pub fn put_log<L: LogFiles>(exit: &Exit, before: u8, log: Option<&str>, files: &mut L) -> u8
     ensures { IsLogged L.logs exit.now before files.old files.new result }
 {
@@ -34,8 +34,8 @@ pub fn put_log<L: LogFiles>(exit: &Exit, before: u8, log: Option<&str>, files: &
     }
 }
 
-/// Returns the file that a log is to be put into; `None` if none is wanted, or if reading the script or writing the report
-/// failed.
+/// Returns the name of the file that a log is to be put into. The result is `None` if the command asks for no log, or if reading the script
+/// or writing the report failed.
 fn file_for_log(exit: &Exit) -> Option<&FileName>
     ensures { IfSome result (λ name. IsLogWanted exit.now name.now) }
 {

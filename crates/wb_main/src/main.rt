@@ -1,6 +1,5 @@
-//! The program: passes the process's own words, files and streams to the workbench, explains the answer on standard error, and writes the
-//! picture and the log that were asked for. On standard error it also writes how far a long sweep has come, and the steps of a run if they
-//! were asked for.
+//! The program: passes the process's own words, files and streams to the workbench, explains the answer, and writes the picture and the log
+//! that were asked for. Standard error gets the explanation, how far a long sweep has come, and the steps of a run if they were asked for.
 #![tactic(auto)]
 
 mod afterwards;

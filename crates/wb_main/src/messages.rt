@@ -1,4 +1,4 @@
-//! Messages of the process on standard error: on words that are no command, and on a script that is read from a terminal.
+//! Messages of the process on standard error: about words that are no command, and about a script that is read from a terminal.
 
 ghost use Rattle.std.specs.Prelude.{⊤};
 
@@ -10,15 +10,15 @@ use wb_command_line::messages::message_of;
 use workbench::CommandFault;
 use workbench::host::{Messages, WordsFault};
 
-/// What is said when a script is read from a terminal. Without this the program would wait in silence.
+/// The message when a script is read from a terminal. Without this message, the program would wait in silence.
 const TYPED: &[u8] =
     b"workbench: the script is read from the terminal; end it with Ctrl-D on a line of its own\n";
 
-/// What is said then if `--picture` got the name of a script.
+/// The second message when a script is read from a terminal, if `--picture` got the name of a script.
 const TAKEN: &[u8] =
     b"workbench: the word after '--picture' names the file for the picture; the script's name comes after that\n";
 
-/// Standard error. Nothing depends on whether a message could be written.
+/// Standard error. No result depends on whether a message could be written.
 #[derive(Drop)]
 pub struct ProcessMessages<'a> {
     pub rt: &'a HostRuntime,
@@ -47,7 +47,7 @@ impl<'a> ProcessMessages<'a> {
     }
 }
 
-/// How many columns the lines of a message may have: as the variable `COLUMNS` says, if it is set.
+/// How many columns the lines of a message may have. The environment variable `COLUMNS` gives the number, if it is set.
 fn columns_of_messages(rt: &HostRuntime) -> usize {
     match env::var(rt, "COLUMNS") {
         Ok(text) => columns_of(text.as_str()),
@@ -65,7 +65,7 @@ pub fn say_if_typed(rt: &HostRuntime) {
     }
 }
 
-/// Whether the word after `--picture` ends as the name of a script does.
+/// Whether the word after `--picture` ends like the name of a script.
 fn has_script_as_picture(rt: &HostRuntime) -> io::Result<bool> {
     let words: Vec<String> = env::args(rt)?.collect(rt.alloc())?;
     let mut is_after = false;

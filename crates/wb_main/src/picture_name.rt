@@ -1,10 +1,11 @@
-//! What is said of the name of a picture's file where another file seems to be meant. Nothing depends on it.
+//! Messages about a strange name of a picture's file. Nothing else depends on these messages.
 
 use crate::asked::shown_name;
 use std::io::Write;
 use workbench::{Command, FileName};
 
-/// Says on standard error that the word after `--picture` wasn't taken for the script's name, if it looks like one and no script is named.
+/// Says on standard error that the word after `--picture` wasn't taken as the script's name. Says so only if the word looks like a script's
+/// name and the command names no script.
 pub fn say_if_script(rt: &HostRuntime, command: &Command) {
     if let (Some(picture), None) = (&command.picture, &command.file)
         && picture.as_str().ends_with(".oom")
@@ -18,7 +19,8 @@ pub fn say_if_script(rt: &HostRuntime, command: &Command) {
     }
 }
 
-/// Says on standard error that a picture is put into a file whose name is not that of a picture.
+/// Says on standard error that the name of the picture's file doesn't end like the name of a picture. Says nothing if the name ends in
+/// `.svg`.
 pub fn say_if_no_picture(rt: &HostRuntime, picture: &FileName) {
     if !picture.as_str().ends_with(".svg") {
         let name = shown_name(picture);

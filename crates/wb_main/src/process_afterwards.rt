@@ -1,4 +1,4 @@
-//! The process's own standard error and files, for what comes after its answer.
+//! The process's own standard error and files, for the calls that come after the answer.
 
 ghost use Rattle.std.specs.Prelude.{⊤};
 
@@ -15,11 +15,11 @@ use std::io::Write;
 use workbench::FileName;
 use workbench::program::Exit;
 
-/// The process's own standard error and files. What there is no memory for, or what can't be written to standard error, is left out.
+/// The process's own standard error and files. A text is left out if memory runs out for it, or if it can't be written to standard error.
 #[derive(Drop)]
 pub struct ProcessAfterwards<'a> {
     pub rt: &'a HostRuntime,
-    /// What failed first in reading and writing.
+    /// The first fault in opening, reading or writing a file.
     pub first: &'a RefCell<FirstFault>,
     pub files: ProcessFiles<'a>,
 }

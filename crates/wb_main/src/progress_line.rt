@@ -1,9 +1,9 @@
-//! The line on standard error that says which failure, or which length of heap, is tried at the moment: on a terminal it is rewritten in
-//! place, elsewhere a line is written each minute. What it says is in `progress_words`; how much of the work is done is computed in `work`,
-//! and for sets of attempts in `set_work`.
+//! The line on standard error that says how far a run has come, or which failure or length of heap is tried at the moment. On a terminal
+//! the line is rewritten in place; elsewhere a line is written each minute. What the line says is in `progress_words`. How much of the
+//! work is done is computed in `work`, and for sets of attempts in `set_work`.
 
 use crate::progress_words::{
-    Fine, WIDEST, line_of, line_of_length, line_of_set, line_of_states, number_of,
+    Fine, WIDEST, line_of, line_of_length, line_of_set, line_of_states, line_of_steps, number_of,
 };
 use crate::set_work::SetWork;
 use crate::work::{Estimate, Work};
@@ -13,7 +13,7 @@ use std::io::{IsTerminal, Write};
 use std::time::{Duration, Instant};
 use wb_heap_model::heap::Numbers;
 use wb_runs::failures::Failing;
-use workbench::{Aim, Progress};
+use workbench::{Aim, Progress, StepProgress};
 
 /// How long runs go on before the line is first shown, in milliseconds.
 const QUIET: u64 = 2_000;
@@ -51,6 +51,8 @@ pub struct ProgressLine<'a> {
     states: u32,
     /// When the first failure was tried, or the first set of `many` attempts; `None` if that isn't known.
     since: Option<Instant>,
+    /// The length of the heap in which a run is under way, in bytes; `None` if no search through all lengths is.
+    length: Option<u32>,
     /// How many columns the line on the terminal takes; 0 if there is none.
     width: usize,
 }
@@ -70,6 +72,7 @@ impl<'a> ProgressLine<'a> {
             sets: SetWork::new(0, 0),
             states: 0,
             since: None,
+            length: None,
             width: 0,
         }
     }
@@ -173,7 +176,23 @@ impl<'a> ProgressLine<'a> {
     }
 }
 
+impl<'a> StepProgress for ProgressLine<'a> {
+    fn take_steps(&mut self, steps: u32) {
+        if self.is_due() {
+            let line = match self.length {
+                Some(length) => line_of_length(length),
+                None => line_of_steps(steps),
+            };
+            self.show(line);
+        }
+    }
+}
+
 impl<'a> Progress for ProgressLine<'a> {
+    fn begin_run(&mut self) {
+        self.begin_quietly();
+    }
+
     fn begin(&mut self, aim: Aim) {
         self.aim = Some(aim);
         self.begin_quietly();
@@ -218,10 +237,10 @@ impl<'a> Progress for ProgressLine<'a> {
         }
     }
 
-    fn meet_state(&mut self) {
+    fn meet_state(&mut self, waiting: usize) {
         self.states = self.states.saturating_add(1);
         if self.is_due() {
-            self.show(line_of_states(self.many, self.states, self.seconds()));
+            self.show(line_of_states(self.many, self.states, waiting, self.seconds()));
         }
     }
 
@@ -230,12 +249,14 @@ impl<'a> Progress for ProgressLine<'a> {
     }
 
     fn begin_length(&mut self, length: u32) {
+        self.length = Some(length);
         if self.is_due() {
             self.show(line_of_length(length));
         }
     }
 
     fn end(&mut self) {
+        self.length = None;
         if self.width > 0 {
             self.rewrite("");
             let _ = self.rt.stderr().write_all(b"\r");

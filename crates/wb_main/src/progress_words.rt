@@ -73,9 +73,15 @@ pub fn line_of_set(
     Some(line)
 }
 
-/// The line on a search over states: how many attempts fail together, how many states were met, that no smaller set shows anything, and, if
-/// it is known, for how many seconds sets of that size have been tried; `None` if the line is too long.
-pub fn line_of_states(many: u32, states: u32, seconds: Option<u64>) -> Option<ArrayString<WIDEST>> {
+/// The line on a search over states: how many attempts fail together, how many states were met, how many of these wait to be followed
+/// through another failure, that no smaller set shows anything, and, if it is known, for how many seconds sets of that size have been
+/// tried; `None` if the line is too long.
+pub fn line_of_states(
+    many: u32,
+    states: u32,
+    waiting: usize,
+    seconds: Option<u64>,
+) -> Option<ArrayString<WIDEST>> {
     let mut line = ArrayString::<WIDEST>::new();
     // the runs under single failures are made once more for their states
     let (many, attempts) = if many < 2 {
@@ -85,17 +91,13 @@ pub fn line_of_states(many: u32, states: u32, seconds: Option<u64>) -> Option<Ar
     };
     let put = write!(
         line,
-        "trying sets of {many} {attempts}, {states} states met"
+        "trying sets of {many} {attempts}, {states} states met, {waiting} wait"
     );
     put.ok()?;
     if many > 1 {
-        let put = write!(line, ", nothing with fewer");
-        put.ok()?;
+        let _ = line.try_push_str(", nothing with fewer");
     }
-    if let Some(seconds) = seconds {
-        let put = write!(line, ", {seconds} s");
-        put.ok()?;
-    }
+    put_if_room(&mut line, words_of_seconds(seconds));
     Some(line)
 }
 
@@ -109,6 +111,13 @@ pub fn line_of_length(length: u32) -> Option<ArrayString<WIDEST>> {
         line,
         "trying a heap of {length} bytes, {percent}% of the lengths done"
     );
+    put.ok().map(|()| line)
+}
+
+/// The line on a run without failure, with the steps that it has taken; `None` if the line is too long.
+pub fn line_of_steps(steps: u32) -> Option<ArrayString<WIDEST>> {
+    let mut line = ArrayString::<WIDEST>::new();
+    let put = write!(line, "running, {steps} steps taken");
     put.ok().map(|()| line)
 }
 
@@ -146,6 +155,13 @@ fn words_of_fine(none: &str, fine: Fine) -> Option<ArrayString<WIDEST>> {
     } else {
         write!(words, ", {none} from {first} to {last}")
     };
+    put.ok().map(|()| words)
+}
+
+/// For how many seconds the work has gone on; `None` if that isn't known.
+fn words_of_seconds(seconds: Option<u64>) -> Option<ArrayString<WIDEST>> {
+    let mut words = ArrayString::new();
+    let put = write!(words, ", {} s", seconds?);
     put.ok().map(|()| words)
 }
 

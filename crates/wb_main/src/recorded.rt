@@ -1,4 +1,4 @@
-//! The process's files and streams, with a record of what failed first. The record changes nothing of what is read and written.
+//! The process's files and streams, with a record of the first fault. Recording changes nothing in the bytes that are read and written.
 
 ghost use Rattle.std.specs.Prelude.{⊤};
 
@@ -11,10 +11,10 @@ use wb_explain::files::Deed;
 use workbench::host::Host;
 use workbench::{Sink, Source};
 
-/// What failed first, opening, reading or writing, and the kind of the error; `None` if nothing failed.
+/// The first fault: which of opening, reading and writing failed, and the kind of the error. The value is `None` if nothing failed.
 pub type FirstFault = Option<(Deed, ErrorKind)>;
 
-/// Notes a fault, unless one was noted before it.
+/// Records a fault, unless another fault was recorded before.
 fn note_fault(first: &RefCell<FirstFault>, deed: Deed, kind: ErrorKind) {
     if let Ok(mut first) = first.try_borrow_mut() {
         if first.is_none() {
@@ -23,7 +23,7 @@ fn note_fault(first: &RefCell<FirstFault>, deed: Deed, kind: ErrorKind) {
     }
 }
 
-/// A source or a sink that hands everything on, and notes what fails.
+/// A source or a sink that passes each call on to `stream`, and records the fault of a call that fails, unless a fault was recorded before.
 #[derive(Drop)]
 pub struct Recorded<'a, S> {
     pub stream: S,
@@ -60,7 +60,7 @@ impl<'a, S: Sink> Sink for Recorded<'a, S> {
     }
 }
 
-/// The process's files and standard input, recorded.
+/// A host of the process's files and standard input, which records the first fault.
 #[derive(Drop)]
 pub struct RecordedHost<'a> {
     pub rt: &'a HostRuntime,

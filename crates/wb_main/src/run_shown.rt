@@ -1,4 +1,4 @@
-//! The text on a run: what it found, and, if it leaks or panics, the command that shows it step by step.
+//! The text on a run: what the run found, and, if it leaks or panics, the command that shows the run step by step.
 
 use std::alloc::Global;
 use wb_basics::memory::NoMemory;
@@ -7,8 +7,8 @@ use wb_history::{RunParameters, ScriptLines, WatchedRun};
 use wb_runs::run_end::RunEnd;
 use workbench::{Command, FileName};
 
-/// Returns what a run found. If the run leaks or panics, and the command doesn't show its steps already, the text also has a command that
-/// shows them. The only error is that memory ran out.
+/// Returns the text on what a run found. If the run leaks or panics, and the command doesn't show the run's steps already, the text also
+/// has a command that shows these steps. The only error is that memory ran out.
 pub fn explain_run(
     alloc: Global,
     command: &Command,

@@ -1,4 +1,4 @@
-//! An answer, and the runs that it is about. Each run is watched once, for both its explanation and its picture.
+//! An answer, and the runs that the answer is about. Each run is watched once, for both its explanation and its picture.
 
 ghost use Rattle.std.specs.Prelude.{◌≡◌, IfOk, IfSome, IsTrue, option_and_then};
 ghost use Rattle.wb_lengths.specs.Lengths.{first_bad};
@@ -16,7 +16,7 @@ use workbench::exit_status::NOTHING_FOUND;
 use workbench::findings::Findings;
 use workbench::{Command, Task};
 
-/// An answer: what was asked, and what was found.
+/// An answer: the command, what was found, and the exit status.
 #[derive(Clone, Copy)]
 pub struct Answer<'a> {
     pub command: &'a Command,
@@ -24,12 +24,12 @@ pub struct Answer<'a> {
     pub status: u8,
 }
 
-/// The runs that the report is about, as far as they are made once more from beginning to end.
+/// The runs that the report is about. Only runs that are made once more, from beginning to end, are among them.
 #[derive(Drop)]
 pub struct Runs<'a> {
-    /// The run without failure, if a picture or a table of lengths is about it and `found` isn't that run; else `None`.
+    /// The run without failure; `None` if neither a picture nor the table of rises needs this run, or if `found` is this run.
     pub plain: Option<WatchedRun<'a>>,
-    /// The run that was asked for, or the run that was found; `None` if neither is explained or drawn.
+    /// The run that was asked for, or the run that was found; `None` if no such run is explained or drawn.
     pub found: Option<WatchedRun<'a>>,
 }
 
@@ -60,7 +60,7 @@ pub fn runs_of<'a>(
     Ok(Runs { plain, found })
 }
 
-/// Watches the run that the report shows; `None` if there is none to explain or draw. The only error is that memory ran out.
+/// Watches the run that the report shows; `None` if no run is to be explained or drawn. The only error is that memory ran out.
 fn shown_run<'a>(
     alloc: Global,
     answer: Answer<'_>,
@@ -91,7 +91,8 @@ fn is_plain(run: &WatchedRun<'_>) -> bool {
     )
 }
 
-/// Whether all that a picture draws is kept of the runs: for a picture, or to say what fills the heap.
+/// Whether the runs are watched so that everything that a picture draws is kept. A picture needs all of this, and so does the text on what
+/// fills the heap.
 fn is_kept_whole(answer: Answer<'_>) -> bool {
     answer.command.picture.is_some() || answer.findings.rises.is_some()
 }
@@ -105,8 +106,9 @@ pub fn plain_run<'a>(answer: Answer<'_>, runs: &'a Runs<'a>) -> Option<&'a Watch
     }
 }
 
-/// The rule of the run to explain and to draw. For `run`, `None` if no rule was given, nothing was found and no picture is drawn; for other
-/// tasks, `None` if the report names no failure, no set and no length. The only error is that memory ran out.
+/// The rule of the run to explain and to draw. For `run`, the result is `None` if no rule was given, nothing was found and no picture is
+/// drawn. For other tasks, the result is `None` if the report names no failure, no set and no length. The only error is that memory ran
+/// out.
 fn rule_to_watch(
     task: &Task,
     findings: &Findings,
@@ -123,15 +125,15 @@ fn rule_to_watch(
     })
 }
 
-/// The least length of heap whose run leaks or panics, in bytes; `None` if there is none.
+/// The least length of a heap whose run leaks or panics, in bytes; `None` if there is no such length.
 fn length_to_explain(findings: &Findings) -> Option<u32>
     ensures { result ≡ option_and_then first_bad findings.now.ranges }
 {
     first_bad(findings.ranges.as_ref()?)
 }
 
-/// Returns whether there is a run to explain even if nothing was found: `run` was given a rule, or the report names a failure, a set or a
-/// length.
+/// Returns whether there is a run to explain even if nothing was found. For `run`, there is such a run if a rule was given. For other
+/// tasks, there is such a run if the report names a failure, a set or a length.
 pub fn has_run_to_explain(task: &Task, findings: &Findings) -> bool {
     match task {
         Task::Run(Rule::Unlimited) => false,

@@ -1,5 +1,5 @@
-//! How far a sweep has come with the sets of one size, counted in sets, and how long the rest of these takes at the same pace. Larger sets
-//! aren't counted: it isn't known yet whether they will be tried.
+//! How far a sweep has come with the sets of one size, counted in sets, and how long the rest of these sets takes at the same pace. Larger
+//! sets aren't counted: it isn't known yet whether they will be tried.
 
 use crate::work::{Estimate, estimate_of};
 use std::time::Duration;
@@ -12,11 +12,11 @@ pub struct SetWork {
     many: u32,
     /// The greatest first number of a set.
     last: u32,
-    /// The first number of the set that was tried first; 0 before any was tried.
+    /// The first number of the set that was tried first; 0 as long as no set was tried.
     begin: u32,
     /// The greatest number in a set that was tried.
     farthest: u32,
-    /// Whether `farthest` is known to be the last attempt of a run: a set with a lesser last number came after it.
+    /// Whether `farthest` is known to be the last attempt of a run, because a set with a lesser last number was tried after it.
     is_known: bool,
 }
 
@@ -44,8 +44,9 @@ impl SetWork {
         self.farthest = self.farthest.max(last);
     }
 
-    /// The estimate as the run of a set begins. `elapsed` is the time since the first run of a set of this size began. `None` if too little
-    /// is known yet, or if the rest takes longer than a year. Each run is taken to make as many attempts as the longest run.
+    /// The estimate when the run of a set begins. `elapsed` is the time since the first run of a set of this size began. `None` if too
+    /// little is known yet, or if the rest takes longer than a year. The estimate assumes that each run makes as many attempts as the
+    /// longest run so far.
     pub fn estimate(&self, numbers: &Numbers, elapsed: Duration) -> Option<Estimate> {
         if !self.is_known {
             return None;
@@ -67,7 +68,7 @@ impl SetWork {
     }
 }
 
-/// How many sets of `many` numbers there are, of the numbers from `from` to `to`.
+/// How many sets of `many` numbers can be formed from the numbers from `from` to `to`; `None` if there are too many to count.
 fn sets_from(from: u32, to: u32, many: u32) -> Option<u64> {
     let count = u64::from(to.saturating_add(1).saturating_sub(from));
     let mut sets: u64 = 1;

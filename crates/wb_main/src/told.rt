@@ -1,5 +1,5 @@
-//! What is made of an answer beside the answer itself: the text for standard error, the picture, and the log. For all, the script is read
-//! once more, and each run that they are about is watched once.
+//! Makes the texts that come in addition to an answer: the text for standard error, the picture, and the log. To make them, the script is
+//! read once more, and each run that they are about is watched once.
 
 ghost use Rattle.std.specs.Prelude.{IsTrue};
 ghost use Rattle.wb_tree.specs.Sound.{is_script};
@@ -22,13 +22,13 @@ use workbench::exit_status::READ_OR_WRITE_FAULT;
 use workbench::findings::Findings;
 use workbench::program::Exit;
 
-/// What is made of an answer beside the answer itself.
+/// The texts that are made in addition to an answer.
 #[derive(Drop)]
 pub struct Told {
     /// The text for standard error; empty if there is nothing to say.
     pub text: String,
-    /// The picture and the log; `None` for one that isn't wanted, and for both if there is no report or if the script is rejected. What
-    /// there is no memory for is `None` too. The picture is empty if there is no run to draw.
+    /// The picture and the log. A text is `None` if the command doesn't ask for it, or if memory runs out for it. Both texts are `None` if
+    /// there is no report or if the script is rejected. The picture is empty if there is no run to draw.
     pub beside: Beside,
 }
 
@@ -41,8 +41,8 @@ impl Told {
     }
 }
 
-/// Returns what is made of an answer. `exit` is what came of the program's words, and `first` is what failed first in reading and writing.
-/// The only error is that memory ran out.
+/// Returns the texts that are made in addition to an answer. `exit` is what the program returned, and `first` is the first fault in
+/// opening, reading or writing a file. The only error is that memory ran out.
 pub fn tell_answer(rt: &HostRuntime, exit: &Exit, first: FirstFault) -> Result<Told, NoMemory> {
     let alloc = rt.alloc();
     let Some(command) = &exit.command else {
@@ -63,7 +63,8 @@ pub fn tell_answer(rt: &HostRuntime, exit: &Exit, first: FirstFault) -> Result<T
     tell_findings(rt, answer)
 }
 
-/// Returns what is made of a report. If there is nothing to say, and no picture and no log is wanted, the script isn't read once more.
+/// Returns the texts that are made in addition to a report. The script isn't read once more if there is nothing to say and the command asks
+/// for no picture and no log.
 fn tell_findings(rt: &HostRuntime, answer: Answer<'_>) -> Result<Told, NoMemory> {
     let (alloc, command) = (rt.alloc(), answer.command);
     if command.picture.is_none() && command.sarif.is_none() && has_nothing_to_say(answer) {
@@ -80,7 +81,8 @@ fn tell_findings(rt: &HostRuntime, answer: Answer<'_>) -> Result<Told, NoMemory>
     }
 }
 
-/// Returns the text on the runs of a report, and their picture and log if these are wanted. The only error is that memory ran out.
+/// Returns the text on the runs of a report, and their picture and log if the command asks for these. The only error is that memory ran
+/// out.
 fn tell_runs(rt: &HostRuntime, answer: Answer<'_>, script: &Script) -> Result<Told, NoMemory>
     requires { IsTrue (is_script script.now) }
 {
@@ -102,7 +104,7 @@ fn tell_runs(rt: &HostRuntime, answer: Answer<'_>, script: &Script) -> Result<To
     })
 }
 
-/// Returns the text of what is explained, and its log if this is wanted, beside the picture.
+/// Returns the text of an explanation, the log of the explanation if the command asks for a log, and the picture.
 fn tell_said(
     alloc: Global,
     answer: Answer<'_>,
@@ -121,7 +123,7 @@ fn tell_said(
     }
 }
 
-/// What is explained of these runs; nothing if there is nothing to say. The only error is that memory ran out.
+/// Returns the explanation of these runs; empty if there is nothing to say. The only error is that memory ran out.
 fn say_runs(
     rt: &HostRuntime,
     answer: Answer<'_>,
@@ -137,7 +139,7 @@ fn say_runs(
     explain_runs(rt, answer, script, lines, runs)
 }
 
-/// The picture of these runs; `None` if none is wanted, or if memory runs out. It is empty if there are no runs.
+/// The picture of these runs; `None` if the command asks for no picture, or if memory runs out. The picture is empty if there are no runs.
 fn draw_runs(
     alloc: Global,
     answer: Answer<'_>,
@@ -159,7 +161,7 @@ fn draw_runs(
     draw(alloc, lines, shown, table).ok()
 }
 
-/// The runs that a picture shows; `None` if there are none.
+/// The runs that a picture shows; `None` if there is no run to show.
 fn shown_runs<'a>(runs: &'a Runs<'a>) -> Option<ShownRuns<'a>> {
     match (&runs.plain, &runs.found) {
         (Some(first), found) => Some(ShownRuns {

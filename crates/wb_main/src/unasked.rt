@@ -105,7 +105,7 @@ fn answer<P: Progress>(
     let (budget, shape) = (budget_of(command), command.shape);
     match question {
         Question::Persistent => ask_persistent(alloc, script, budget, shape, progress),
-        Question::Lengths => ask_lengths(alloc, script, budget, shape),
+        Question::Lengths => ask_lengths(alloc, script, budget, shape, progress),
         Question::Sets => ask_sets(alloc, script, budget, shape, progress),
     }
 }
@@ -162,12 +162,25 @@ fn attempts_and_steps(
 }
 
 /// Whether the script leaks or panics in a heap of some length.
-fn ask_lengths(alloc: Global, script: &Script, budget: u32, shape: Shape) -> Verdict
+fn ask_lengths<P: Progress>(
+    alloc: Global,
+    script: &Script,
+    budget: u32,
+    shape: Shape,
+    progress: &mut P,
+) -> Verdict
     requires script { IsTrue (is_script script.now) }
     requires least { 1 ≤ budget }
     requires greatest { budget ≤ LARGEST_BUDGET }
 {
-    let Ok(Some(table)) = lengths_within(alloc, script, budget, shape, MOST_STEPS_OF_LENGTHS) else {
+    let Ok(Some(table)) = lengths_within(
+        alloc,
+        script,
+        budget,
+        shape,
+        MOST_STEPS_OF_LENGTHS,
+        progress,
+    ) else {
         return Verdict::Undecided;
     };
     match first_bad(&table) {

@@ -1,5 +1,5 @@
-//! Files that are written beside the report, of pictures and of logs: which files they may replace, and how each gets into its file whole or
-//! not at all. What they show is elsewhere.
+//! Writes pictures and logs into files, in addition to the report. Decides which files a picture or a log may replace, and writes each file
+//! either whole or not at all. Other modules make the contents of the files.
 
 ghost use Rattle.std.specs.Prelude.{⊤};
 
@@ -16,19 +16,19 @@ use wb_explain::files::{Deed, file_fault};
 use wb_sarif::HEAD;
 use workbench::FileName;
 
-/// The name by which the file behind standard input is found.
+/// The name that leads to the file that standard input reads from.
 const INPUT: &str = "/dev/stdin";
 
-/// The names by which the files behind standard output and standard error are found.
+/// The names that lead to the files that standard output and standard error write to.
 const OUTPUTS: [&str; 2] = ["/dev/stdout", "/dev/stderr"];
 
-/// The most symbolic links that are followed from the name of a file.
+/// The most symbolic links that are followed to find the file with a name.
 const MOST_LINKS: u32 = 40;
 
-/// How many names are tried for the file that is written before it is renamed.
+/// How many names are tried for the new file, which is renamed after it is written.
 const MOST_NAMES: u32 = 100;
 
-/// What is written beside the report.
+/// A kind of file that is written in addition to the report.
 #[derive(Clone, Copy, Debug, PartialEq, Eq)]
 enum Kind {
     Picture,
@@ -36,7 +36,7 @@ enum Kind {
 }
 
 impl Kind {
-    /// What it is called.
+    /// The word for this kind in messages.
     fn name(self) -> &'static str {
         match self {
             Kind::Picture => "picture",
@@ -44,7 +44,7 @@ impl Kind {
         }
     }
 
-    /// The file that it may replace.
+    /// The words for the only files that may be replaced by a file of this kind.
     fn own_file(self) -> &'static str {
         match self {
             Kind::Picture => "an SVG",
@@ -53,7 +53,7 @@ impl Kind {
     }
 }
 
-/// The process's own files.
+/// The files that the process itself may write.
 #[derive(Drop)]
 pub struct ProcessFiles<'a> {
     rt: &'a HostRuntime,
@@ -80,8 +80,8 @@ impl<'a> ProcessFiles<'a> {
 impl<'a> PictureFiles for ProcessFiles<'a> {
     ghost puts = { λ _ _ _ _. ⊤ };
 
-    /// Puts a picture into a file, or says on standard error why it isn't put there; the file is then as it was. If memory runs out, the
-    /// picture is left out, nothing is said, and the call returns `true`.
+    /// Puts a picture into a file. If the picture can't be put there, says on standard error why, and leaves the file unchanged. If memory
+    /// runs out, the picture is left out, nothing is said, and the call returns `true`.
     fn put(&mut self, name: &FileName, picture: &str) -> bool {
         self.put_kind(Kind::Picture, name, picture)
     }
@@ -96,19 +96,19 @@ impl<'a> LogFiles for ProcessFiles<'a> {
     }
 }
 
-/// Why a text isn't put into a file.
+/// The reason why a text isn't put into a file.
 #[derive(Clone, Copy, Debug, PartialEq, Eq)]
 enum FileFault {
-    /// The name is `-`, which stands for standard output with many programs.
+    /// The name is `-`, which means standard output for many programs.
     Dash,
     Script,
     /// Standard output or standard error goes to this file.
     Output,
     /// The file is a device, a pipe or a socket.
     NotRegular,
-    /// The file doesn't begin as one of this kind does.
+    /// The file exists, but doesn't begin like a file of the kind that is to be written.
     Other,
-    /// The system refuses a call that is needed.
+    /// The operating system can't do what is needed, or memory ran out.
     System(ErrorKind),
 }
 
@@ -124,14 +124,14 @@ impl From<AllocError> for FileFault {
     }
 }
 
-/// Says why a text isn't put into the file. The message is left out if memory runs out, or if it can't be written.
+/// Says why a text isn't put into the file. The message is left out if memory runs out, or if the message can't be written.
 fn say_fault(rt: &HostRuntime, kind: Kind, name: &FileName, fault: FileFault) {
     if let Ok(text) = message_of(rt.alloc(), kind, shown_name(name), fault) {
         let _ = rt.stderr().write_all(text.as_bytes());
     }
 }
 
-/// Returns why a text isn't put into the file with this name. The only error is that memory ran out.
+/// Returns the message that says why a text isn't put into the file with this name. The only error is that memory ran out.
 fn message_of(
     alloc: Global,
     kind: Kind,
@@ -163,7 +163,7 @@ fn message_of(
     }
 }
 
-/// Puts a text into the file that a name leads to. If there is such a file, it is replaced only if it begins as one of this kind does.
+/// Puts a text into the file that a name leads to. An existing file is replaced only if it begins like a file of this kind.
 fn put_into_file(
     rt: &HostRuntime,
     script: Option<&FileName>,
@@ -188,7 +188,7 @@ fn put_into_file(
     put_whole(rt, kind, path.as_path(), text, permissions)
 }
 
-/// Returns the path that a name leads to: as long as a path is a symbolic link, the link is followed.
+/// Returns the path that a name leads to. As long as the path is a symbolic link, the function follows the link.
 fn follow_links(rt: &HostRuntime, name: &str) -> Result<PathBuf, FileFault> {
     let mut path = PathBuf::from_str(rt.alloc(), name)?;
     for _ in 0..MOST_LINKS {
@@ -208,8 +208,8 @@ fn follow_links(rt: &HostRuntime, name: &str) -> Result<PathBuf, FileFault> {
     Err(FileFault::System(ErrorKind::FilesystemLoop))
 }
 
-/// Checks that a file which exists may be replaced: it is a regular file that begins as one of this kind does and may be written, and it is
-/// neither the script nor the file that the report or the messages go to.
+/// Checks that an existing file may be replaced. The file must be a regular file that begins like a file of this kind and that may be
+/// written. The file must not be the script, or the file that the report or the messages go to.
 fn see_replaceable(
     rt: &HostRuntime,
     script: Option<&FileName>,
@@ -240,13 +240,13 @@ fn see_replaceable(
     }
 }
 
-/// Whether a name leads to this file; `false` if the system doesn't say what the name leads to.
+/// Whether a name leads to this file; `false` if the system can't say which file the name leads to.
 fn is_file_at(rt: &HostRuntime, name: &str, file: &Metadata) -> bool {
     fs::metadata(rt, name).is_ok_and(|it| it.dev() == file.dev() && it.ino() == file.ino())
 }
 
-/// Whether a file begins as an SVG does: with the opening tag of its outermost element. The file is opened for writing as well, so that a
-/// file that may not be written is an error, and isn't replaced.
+/// Whether a file begins like an SVG file, with the opening tag of the outermost element. The file is also opened for writing. So a file
+/// that may not be written leads to an error, and isn't replaced.
 fn begins_as_svg(rt: &HostRuntime, path: Path<'_>) -> Result<bool, FileFault> {
     let mut start = [0u8; 5];
     let mut file = OpenOptions::new().read(true).write(true).open(rt, path)?;
@@ -259,7 +259,7 @@ fn begins_as_svg(rt: &HostRuntime, path: Path<'_>) -> Result<bool, FileFault> {
     }
 }
 
-/// Whether a file begins as the workbench's own logs do. It is opened as `begins_as_svg` does.
+/// Whether a file begins like the workbench's own logs. The file is opened for reading and writing, as in `begins_as_svg`.
 fn begins_as_log(rt: &HostRuntime, path: Path<'_>) -> Result<bool, FileFault> {
     let mut start = Vec::new(rt.alloc());
     start.resize(HEAD.len(), 0u8)?;
@@ -271,7 +271,8 @@ fn begins_as_log(rt: &HostRuntime, path: Path<'_>) -> Result<bool, FileFault> {
     }
 }
 
-/// Writes a whole text to a new file in the same folder, and gives that file the name `path`. If either fails, the new file is removed.
+/// Writes a whole text to a new file in the folder of `path`, and then renames the new file to `path`. If writing or renaming fails, the
+/// new file is removed.
 fn put_whole(
     rt: &HostRuntime,
     kind: Kind,
@@ -290,7 +291,7 @@ fn put_whole(
     Ok(put?)
 }
 
-/// Creates a file in the same folder as `path`, under a name that no file has yet. Returns its path and the file.
+/// Creates a new file in the folder of `path`, under a name that no file has yet. Returns the path of the new file, and the file.
 fn create_beside(
     rt: &HostRuntime,
     kind: Kind,
@@ -309,7 +310,7 @@ fn create_beside(
     Err(FileFault::System(ErrorKind::AlreadyExists))
 }
 
-/// Writes a text to a new file, and gives the file these permissions, if there are any.
+/// Writes a text to a new file, and gives the file these permissions; `None` leaves its permissions unchanged.
 fn fill(mut file: File, text: &str, permissions: Option<Permissions>) -> io::Result<()> {
     file.write_all(text.as_bytes())?;
     match permissions {

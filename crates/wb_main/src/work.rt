@@ -1,5 +1,5 @@
-//! How much of a sweep's work is done, counted in runs under failures with one number each, and how long the rest takes at the same pace.
-//! The line that shows this is in `progress_line`. Sets of attempts, and so pairs, are counted in `set_work`.
+//! How much of a sweep's work is done, and how long the rest takes at the same pace. The work is counted in runs, each under a failure with
+//! one number. The line that shows this is in `progress_line`. Sets of attempts, and so pairs, are counted in `set_work`.
 
 use std::time::Duration;
 
@@ -36,8 +36,8 @@ impl Work {
         self.begun == 1
     }
 
-    /// The estimate as the run under the failure with this number begins. `elapsed` is the time since the first run began. `None` if no run
-    /// is done yet, or if the rest takes longer than a year.
+    /// The estimate when the run under the failure with this number begins. `elapsed` is the time since the first run began. `None` if no
+    /// run is done yet, or if the rest takes longer than a year.
     pub fn estimate(&self, number: u32, elapsed: Duration) -> Option<Estimate> {
         let done = self.begun.checked_sub(1)?;
         let after = self.last.checked_sub(number)?;

@@ -1,4 +1,6 @@
-//! What a script means: its states, what each statement does to them, and a whole run under a rule, with its account of attempts.
+//! What a script means: the states of a run, how each statement changes a state, and a whole run under a rule, with the run's record of
+//! attempts.
 #![tactic(auto)]
 
+pub mod progress;
 pub mod run;

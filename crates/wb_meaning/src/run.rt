@@ -6,10 +6,10 @@ use wb_heap_model::heap::Panic;
 use wb_heap_model::reported::{Leaks, Notes, Trace};
 use wb_heap_model::size::Rises;
 
-/// Why a run was cut.
+/// Why the workbench cut a run short.
 #[derive(Clone, Copy, Debug, PartialEq, Eq)]
 pub enum Why {
-    /// A step would have passed the budget.
+    /// One more step would have exceeded the budget of steps.
     Budget,
     /// A cell would have ended past the heap's ceiling of 16 MiB.
     Ceiling,
@@ -21,7 +21,7 @@ pub type Lines = Items<Line>;
 /// How a run ended.
 #[derive(Debug, Drop)]
 pub enum Outcome {
-    /// `main` ended: plainly if `left` is `None`, and else by a leave with that code.
+    /// `main` ended. If `left` is `None`, `main` ended without a leave; otherwise `main` left with the code in `left`.
     Ended { left: Option<i32>, leaks: Leaks },
     Panicked(Panic),
     /// The attempt to get the cleanup stack's own cell failed, so `main` did not begin.
@@ -29,7 +29,7 @@ pub enum Outcome {
     Cut(Why),
 }
 
-/// All that a run reports.
+/// Everything that a run reports.
 #[derive(Debug, Drop)]
 pub struct RunResult {
     pub outcome: Outcome,
@@ -39,7 +39,7 @@ pub struct RunResult {
     pub steps: u32,
 }
 
-/// What a run without a limit reports if it keeps its rises in place of a trace. `steps` counts the steps of the whole run.
+/// What a run without a limit reports if it keeps its rises instead of a trace. `steps` is the number of steps of the whole run.
 #[derive(Debug, Drop)]
 pub struct RisesResult {
     pub outcome: Outcome,

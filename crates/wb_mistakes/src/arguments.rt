@@ -1,4 +1,4 @@
-//! A call whose arguments aren't those that the procedure takes.
+//! A call whose arguments don't fit the parameters of the procedure.
 
 use crate::further_lines::mark_declaration;
 use crate::lines::Line;
@@ -9,7 +9,7 @@ use wb_lines::words::{before_first, parameter_type_of_word};
 use wb_pages::{Page, Shown, Spot, Word};
 use wb_tree::script_lines::{LineKind, ParameterType};
 
-/// The place of the procedure's name among the words of a call.
+/// The place of the procedure's name among the words of a line that calls a procedure.
 fn procedure_place(line: &Line) -> usize {
     match line.line_kind() {
         Some(LineKind::CallTo) => 2,
@@ -17,7 +17,7 @@ fn procedure_place(line: &Line) -> usize {
     }
 }
 
-/// Whether a parameter takes what a word refers to.
+/// Whether a parameter takes an argument of the kind that a word has.
 fn fits_parameter(lines: &[Line], index: usize, parameter: Word, word: &[u8]) -> bool {
     let operand_kind = operand_kind_in_body(lines, index, word);
     match parameter_type_of_word(parameter.text) {
@@ -26,8 +26,8 @@ fn fits_parameter(lines: &[Line], index: usize, parameter: Word, word: &[u8]) ->
     }
 }
 
-/// The place, in the procedure's first line, of the first parameter whose argument is of another kind; `None` if there is no such
-/// parameter.
+/// The place of the first parameter whose argument is of another kind, among the words of the procedure's first line; `None` if there is no
+/// such parameter.
 fn first_wrong_argument(
     lines: &[Line],
     index: usize,
@@ -70,7 +70,7 @@ fn explain_argument(page: &mut Page, lines: &[Line], index: usize, spot: Spot, p
     mark_declaration(page, lines, index, before_first(b'.', spot.word));
 }
 
-/// The first line of the procedure that a line calls; `None` if nothing in the script has the name of that procedure.
+/// The first line of the procedure that a line calls; `None` if no class, procedure or operation of the script has the name in the call.
 fn procedure_of<'l, 'a>(lines: &'l [Line<'a>], line: &Line) -> Option<&'l Line<'a>> {
     let item = find_item(lines, line.text_at(procedure_place(line)))?;
     lines.get(item.line)
@@ -88,7 +88,7 @@ fn explain_call(page: &mut Page, lines: &[Line], index: usize, line: &Line, proc
     }
 }
 
-/// Says how the arguments of a call differ from what the procedure takes.
+/// Says how the arguments of a call differ from the parameters of the procedure.
 pub fn explain_arguments(page: &mut Page, lines: &[Line], index: usize, line: &Line) {
     if let Some(procedure) = procedure_of(lines, line) {
         explain_call(page, lines, index, line, procedure);

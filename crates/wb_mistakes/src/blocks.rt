@@ -5,10 +5,10 @@ use std::alloc::{AllocError, Global};
 use wb_lines::line_kinds::role_of;
 use wb_tree::script_lines::Role;
 
-/// How far an open block has come, and so what may come next in it.
+/// How far an open block has come. The state of a block determines which lines may come next in the block.
 #[derive(Clone, Copy)]
 pub enum BlockState {
-    /// A class: fields, bodies or the end.
+    /// A class in which fields, bodies or the `end` may come next.
     Fields,
     /// A class after its `construct`.
     AfterConstruct,
@@ -17,30 +17,31 @@ pub enum BlockState {
     /// A body before its first statement.
     Declarations,
     Statements,
-    /// The first part of an `if`, before an `else`.
+    /// The first part of an `if`, before any `else`.
     FirstPart,
     /// The second part of an `if`, after its `else`.
     ElsePart,
-    /// The lines of a `repeat` or a `trap`.
+    /// The lines inside a `repeat` or a `trap`.
     LoopBody,
 }
 
-/// An open block: how far it has come, and the index of its first line.
+/// An open block: how far the block has come, and the index of its first line.
 #[derive(Clone, Copy)]
 pub struct Block {
     pub state: BlockState,
     pub line: usize,
 }
 
-/// An `end` and the first line of the block that it closes, by their indexes.
+/// A closed block: the index of its first line, and the index of its `end`.
 #[derive(Clone, Copy)]
 pub struct ClosedBlock {
     pub first: usize,
     pub end: usize,
 }
 
-/// The blocks that are open, the innermost last; the block that was closed last; and the first closed block whose `end` is indented more or
-/// less than its first line, among those of the class, procedure or operation that was begun last.
+/// The open blocks, the innermost last, and two closed blocks. `last_closed` is the block that was closed last. `misaligned` is the first
+/// closed block whose `end` is indented more or less than its first line; only blocks of the class, procedure or operation that was begun
+/// last count.
 #[derive(Drop)]
 pub struct Blocks {
     pub open: Vec<Block>,
@@ -48,7 +49,7 @@ pub struct Blocks {
     pub misaligned: Option<ClosedBlock>,
 }
 
-/// The role of a line in the nesting of blocks, by its form; that of a comment if the line has no form.
+/// The role of a line in the nesting of blocks, according to its form. A line without a form has the role of a comment.
 pub fn role(line: &Line) -> Role {
     match line.line_kind() {
         Some(line_kind) => role_of(line_kind),
@@ -56,7 +57,7 @@ pub fn role(line: &Line) -> Role {
     }
 }
 
-/// The role of the line with an index; that of a comment if there is no such line.
+/// The role of the line with an index. If there is no such line, the result is the role of a comment.
 pub fn role_at(lines: &[Line], index: usize) -> Role {
     match lines.get(index) {
         Some(line) => role(line),
@@ -64,7 +65,7 @@ pub fn role_at(lines: &[Line], index: usize) -> Role {
     }
 }
 
-/// How far a block has come after a statement in it.
+/// How far a block has come after a statement in the block.
 fn state_after_statement(state: BlockState) -> BlockState {
     match state {
         BlockState::Declarations => BlockState::Statements,
@@ -83,7 +84,7 @@ fn initial_state(role: Role) -> Option<BlockState> {
     }
 }
 
-/// How far a block has come after a line inside it that isn't its end.
+/// How far a block has come after a line inside the block that isn't the block's `end`.
 fn state_after(state: BlockState, role: Role) -> BlockState {
     match role {
         Role::Construct => BlockState::AfterConstruct,
@@ -94,7 +95,7 @@ fn state_after(state: BlockState, role: Role) -> BlockState {
     }
 }
 
-/// The number of blanks before the line with an index; 0 if there is no such line.
+/// The number of blanks at the beginning of the line with an index; 0 if there is no such line.
 pub fn indent_at(lines: &[Line], index: usize) -> usize {
     match lines.get(index) {
         Some(line) => line.indent,
@@ -117,7 +118,7 @@ impl Blocks {
         }
     }
 
-    /// Moves the innermost block on past a line with this role.
+    /// Updates how far the innermost block has come, for a line with this role.
     fn advance(&mut self, role: Role) {
         if let Some(block) = self.open.last_mut() {
             block.state = state_after(block.state, role);
@@ -127,7 +128,7 @@ impl Blocks {
     fn pass_line(&mut self, index: usize, role: Role) -> Result<(), AllocError> {
         self.advance(role);
         if self.open.is_empty() {
-            // the classes, procedures and operations above are finished, so none of their blocks lacks an `end`
+            // all classes, procedures and operations above are complete, so each of their blocks has its `end`
             self.misaligned = None;
         }
         if let Some(state) = initial_state(role) {
@@ -148,8 +149,8 @@ impl Blocks {
     }
 }
 
-/// Returns the blocks that are open before the line with an index, if all lines before it are where they belong. The only error is
-/// that memory ran out.
+/// Returns the blocks that are open before the line with an index, if all lines before this line are allowed where they are. The only error
+/// is that memory ran out.
 pub fn blocks_before(alloc: Global, lines: &[Line], index: usize) -> Result<Blocks, AllocError> {
     let mut blocks = Blocks {
         open: Vec::new(alloc),

@@ -1,4 +1,4 @@
-//! What is said of an `if` whose second word is no condition: the condition that seems to be meant.
+//! The explanation of an `if` whose second word isn't a condition: which condition seems to be meant.
 
 use crate::forms::help_with_forms;
 use crate::lines::Line;
@@ -12,7 +12,7 @@ use wb_tree::script_lines::{Keyword, OperandKind};
 /// The keywords of conditions.
 static CONDITIONS: [Keyword; 4] = [Keyword::Null, Keyword::Some, Keyword::Equal, Keyword::Less];
 
-/// An operand that an `if` tests alone, as C++ does, and whether a `!` comes before it.
+/// An operand that is the whole condition of an `if`, as in C++, and whether a `!` comes before the operand.
 #[derive(Clone, Copy)]
 struct Tested<'a> {
     operand: &'a [u8],
@@ -28,7 +28,7 @@ fn is_condition(word: &[u8]) -> bool {
     false
 }
 
-/// Whether the line is an `if` whose second word is no condition.
+/// Whether the line is an `if` with a second word that isn't the keyword of a condition.
 pub fn has_no_condition(line: &Line) -> bool {
     let condition = line.text_at(1);
     line.text_at(0) == b"if".as_slice() && !condition.is_empty() && !is_condition(condition)
@@ -42,7 +42,7 @@ fn nearest_condition(word: &[u8]) -> Option<Candidate<'static>> {
     search.found
 }
 
-/// What a word tests, perhaps in brackets: `p`, `!p`, `(p)` or `(!p)`.
+/// The operand that a word tests. The word may be `p`, `!p`, `(p)` or `(!p)`.
 fn tested_in<'a>(word: &'a [u8]) -> Tested<'a> {
     let inside = match word {
         [b'(', inside @ .., b')'] => inside,
@@ -60,8 +60,8 @@ fn tested_in<'a>(word: &'a [u8]) -> Tested<'a> {
     }
 }
 
-/// What the line at an index tests, and what kind of operand that is, if it is an `if` with one word more: a name or a field, perhaps with a
-/// `!` and in brackets; `None` otherwise.
+/// The operand that an `if` tests, and the operand's kind. The line must have just one word after the `if`: a name or a field, perhaps with
+/// a `!` and in brackets. The result is `None` for any other line.
 fn tested_by<'a>(
     lines: &[Line],
     index: usize,
@@ -76,10 +76,10 @@ fn tested_by<'a>(
     }
 }
 
-/// The hint for a condition on a text.
+/// The hint for an `if` that tests a text.
 const TESTS_NO_TEXT: &str = "an `if` tests pointers and ints; `getlen` gives the length of a text";
 
-/// Says which condition tests an operand alone. `kind` is what the operand is.
+/// Says which condition a script uses to test an operand alone. `kind` is the operand's kind.
 fn help_with_tested(page: &mut Page, tested: Tested, kind: OperandKind) {
     let operand = Shown::word(tested.operand);
     match (kind, tested.is_negated) {
@@ -95,7 +95,7 @@ fn help_with_tested(page: &mut Page, tested: Tested, kind: OperandKind) {
     }
 }
 
-/// Says what is wrong with the condition of the line at an index, which is an `if`.
+/// Says what is wrong with the condition of the line at an index. The line must be an `if`.
 pub fn explain_condition(page: &mut Page, lines: &[Line], index: usize, line: &Line) {
     let spot = line.spot(1);
     page.mark(

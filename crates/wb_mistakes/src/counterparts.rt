@@ -1,14 +1,14 @@
-//! What a script has in place of words of Symbian C++. "Line by line" in `docs/IDIOMS.md` has the same table, in the same order.
+//! What scripts use instead of words of Symbian C++. "Line by line" in `docs/IDIOMS.md` has the same table, in the same order.
 
 use wb_tree::script_lines::LineKind;
 
-/// Words of C++, the kinds of script lines that do the same, and a hint. There are no line kinds if the hint says it all, and the hint may
-/// be empty.
+/// Words of C++, the kinds of script lines that do the same, and a hint. There are no kinds of lines if the hint says everything. The hint
+/// may be empty.
 #[derive(Clone, Copy)]
 pub struct Counterpart(&'static [&'static str], &'static [LineKind], &'static str);
 
 impl Counterpart {
-    /// Whether this is the counterpart of a word of C++.
+    /// Whether this counterpart is for the given word of C++.
     fn is_of(self, word: &[u8]) -> bool {
         self.0.iter().any(|it| it.as_bytes() == word)
     }
@@ -22,7 +22,7 @@ impl Counterpart {
     }
 }
 
-/// The hint that says how a class counts its members that are no pointers.
+/// The hint that says how a class counts the bytes of its members that aren't pointers.
 pub const EXTRA_BYTES: &str =
     "a member that is no pointer adds to the extra bytes of its class: NUMBER in `class NAME NUMBER`";
 
@@ -33,13 +33,13 @@ pub const POINTER_MEMBER: &str = "`field NAME` is for a member";
 pub const NUMBER_RETURNED: &str =
     "a procedure returns no number: `leave NUMBER` hands a code to the `trap INT` of its caller";
 
-/// The hint that says how an error code is written.
+/// The hint that says how a script writes an error code.
 pub const CODE_AS_NUMBER: &str = "a code is written as its number: `KErrNoMemory` is -4";
 
-/// The hint that says how words are separated.
+/// The hint that says how a script separates words.
 pub const WORDS_APART: &str = "words are separated by blanks, without brackets, `,` or `;`";
 
-/// The hint that says how a new cell is put on the cleanup stack.
+/// The hint that says how a script puts a new cell on the cleanup stack.
 const THEN_PUSHED: &str = "`push POINTER` is a line of its own, after it";
 
 static COUNTERPARTS: [Counterpart; 48] = [
@@ -185,7 +185,7 @@ static COUNTERPARTS: [Counterpart; 48] = [
     Counterpart(&["__UHEAP_RESET"], &[LineKind::FailNone], ""),
 ];
 
-/// What a script has in place of a word of C++; `None` if the table has no such word.
+/// Returns what scripts use instead of a word of C++; `None` if the table doesn't have the word.
 pub fn counterpart_named(word: &[u8]) -> Option<Counterpart> {
     for counterpart in &COUNTERPARTS {
         if counterpart.is_of(word) {

@@ -1,4 +1,4 @@
-//! Which word of a line is C++, and the help that says what a script has in its place.
+//! Finds the word of a line that is C++, and writes the help that says what a script uses instead.
 
 use crate::counterparts::{Counterpart, counterpart_named};
 use crate::forms::{begins_statement, write_form_list};
@@ -9,14 +9,14 @@ use wb_lines::words::{after_first_of, before_first};
 use wb_pages::{Page, Shown};
 use wb_tree::script_lines::Role;
 
-/// A word of C++ as the line has it, and what a script has in its place.
+/// A word of C++ as it is in the line, and what a script uses instead of the word.
 #[derive(Clone, Copy)]
 pub struct CppWord<'a> {
     name: &'a [u8],
     counterpart: Counterpart,
 }
 
-/// The part of a name after an arrow; the whole name if it has no arrow.
+/// The part of a name after its arrow `->`; the whole name if the name has no arrow.
 fn after_arrow<'a>(name: &'a [u8]) -> &'a [u8] {
     if has_byte(b'>', name) {
         after_first_of(b'>', name)
@@ -25,8 +25,8 @@ fn after_arrow<'a>(name: &'a [u8]) -> &'a [u8] {
     }
 }
 
-/// The name in a word of C++, without its arguments: `ConstructL` in `note->ConstructL();`, `TBuf` in `TBuf<16>`. In a word such as
-/// `(ELeave)` it is what the brackets hold.
+/// The name in a word of C++, without its arguments: `ConstructL` in `note->ConstructL();`, `TBuf` in `TBuf<16>`. For a word such as
+/// `(ELeave)`, the name is the text inside the brackets.
 pub fn name_in<'a>(word: &'a [u8]) -> &'a [u8] {
     match word {
         [b'(', inside @ ..] => before_first(b')', inside),
@@ -44,7 +44,7 @@ fn is_destructor(word: &[u8]) -> bool {
     has_byte(b'~', word) && matches!(before_first(b'~', word), [] | [.., b':'])
 }
 
-/// The key of a word in the table: the name in the word, or the sign of a comment, a destructor or a pointer.
+/// The text by which the table lists a word: the name in the word, or the sign that marks a comment, a destructor or a pointer.
 fn key_of<'a>(word: &'a [u8]) -> &'a [u8] {
     match word {
         _ if begins_cpp_comment(word) => b"//",
@@ -54,7 +54,7 @@ fn key_of<'a>(word: &'a [u8]) -> &'a [u8] {
     }
 }
 
-/// A word with its entry in the table; `None` if the table doesn't have the word.
+/// A word of C++ with its entry in the table; `None` if the table doesn't have the word.
 pub fn cpp_word<'a>(word: &'a [u8]) -> Option<CppWord<'a>> {
     let counterpart = counterpart_named(key_of(word))?;
     Some(CppWord {
@@ -63,8 +63,8 @@ pub fn cpp_word<'a>(word: &'a [u8]) -> Option<CppWord<'a>> {
     })
 }
 
-/// A word that calls something with brackets, as C++ does; `None` for any other word, and for a statement of scripts that is written with
-/// brackets.
+/// A word that calls something with brackets, as C++ does. The result is `None` for any other word, and for a statement of the script
+/// language that is written with brackets.
 fn call_in<'a>(word: &'a [u8]) -> Option<CppWord<'a>> {
     let name = before_first(b'(', word);
     if name.is_empty() || name.len() == word.len() || begins_statement(name) {
@@ -74,7 +74,7 @@ fn call_in<'a>(word: &'a [u8]) -> Option<CppWord<'a>> {
     Some(CppWord { name, counterpart })
 }
 
-/// A word that the table has, or one that calls something with brackets; `None` if it is neither.
+/// A word that the table has, or a word that calls something with brackets; `None` for any other word.
 fn word_or_call<'a>(word: &'a [u8]) -> Option<CppWord<'a>> {
     match cpp_word(word) {
         Some(found) => Some(found),
@@ -82,7 +82,7 @@ fn word_or_call<'a>(word: &'a [u8]) -> Option<CppWord<'a>> {
     }
 }
 
-/// Whether a word of C++ declares what follows it.
+/// Whether a word of C++ declares the name after the word.
 fn is_declaring(found: CppWord) -> bool {
     match found.counterpart.line_kinds().first() {
         Some(line_kind) => matches!(role_of(*line_kind), Role::Declaration),
@@ -90,7 +90,7 @@ fn is_declaring(found: CppWord) -> bool {
     }
 }
 
-/// The place of the word `=`, `+=` or `-=` in a line; `None` if there is none.
+/// The place of the word `=`, `+=` or `-=` in a line; `None` if the line has no such word.
 fn place_of_assignment(line: &Line) -> Option<usize> {
     for (place, word) in line.words.iter().enumerate() {
         if matches!(word.text, [b'='] | [b'+' | b'-', b'=']) {
@@ -100,7 +100,7 @@ fn place_of_assignment(line: &Line) -> Option<usize> {
     None
 }
 
-/// The first word of C++ after a place of a line; `None` if there is none.
+/// The first word of C++ after this place in a line; `None` if there is no such word.
 fn first_after<'a>(line: &Line<'a>, place: usize) -> Option<CppWord<'a>> {
     for (at, word) in line.words.iter().enumerate() {
         if at > place
@@ -112,12 +112,14 @@ fn first_after<'a>(line: &Line<'a>, place: usize) -> Option<CppWord<'a>> {
     None
 }
 
-/// The first word of C++ after the sign by which a line assigns something; `None` if there is no such word, or the line assigns nothing.
+/// The first word of C++ after the `=`, `+=` or `-=` of a line. The result is `None` if there is no such word, or if the line has no such
+/// sign.
 fn assigned_word<'a>(line: &Line<'a>) -> Option<CppWord<'a>> {
     first_after(line, place_of_assignment(line)?)
 }
 
-/// The sign by which a line assigns something, perhaps without blanks around it; `None` if the line assigns nothing.
+/// The sign by which a line assigns something, such as `=`. There may be no blanks around the sign. The result is `None` if the line
+/// assigns nothing.
 fn assigning_word<'a>(line: &Line<'a>) -> Option<CppWord<'a>> {
     match place_of_assignment(line) {
         Some(place) => cpp_word(line.text_at(place)),
@@ -126,8 +128,9 @@ fn assigning_word<'a>(line: &Line<'a>) -> Option<CppWord<'a>> {
     }
 }
 
-/// The word that shows that a line without a statement is C++. It is, in this order: the assigned word, if the first word declares
-/// something; the first word; the assigned word; the sign by which the line assigns something. `None` if the line has none of these.
+/// The word that shows that a line without a statement is C++. If the first word declares something, the result is the assigned word.
+/// Otherwise, the result is the first of these that is C++: the first word, the assigned word, the sign of the assignment. The result is
+/// `None` if none of these is C++.
 pub fn cpp_word_of<'a>(line: &Line<'a>) -> Option<CppWord<'a>> {
     match (word_or_call(line.text_at(0)), assigned_word(line)) {
         (Some(first), Some(assigned)) if is_declaring(first) => Some(assigned),
@@ -137,14 +140,14 @@ pub fn cpp_word_of<'a>(line: &Line<'a>) -> Option<CppWord<'a>> {
     }
 }
 
-/// Writes a hint, if there is one.
+/// Writes a hint, unless the hint is empty.
 pub fn help_with_hint(page: &mut Page, hint: &str) {
     if !hint.is_empty() {
         page.write_help_text(hint);
     }
 }
 
-/// Says what a script has in place of a word of C++.
+/// Says what a script uses instead of a word of C++.
 pub fn help_with_cpp(page: &mut Page, found: CppWord) {
     let line_kinds = found.counterpart.line_kinds();
     if !line_kinds.is_empty() {

@@ -1,4 +1,4 @@
-//! A name that is declared twice, and where it was declared first.
+//! A name that is declared twice, and the line of its first declaration.
 
 use crate::blocks::role;
 use crate::further_lines::mark_name;
@@ -9,7 +9,7 @@ use wb_lines::words::before_first;
 use wb_pages::{Page, Spot, Word};
 use wb_tree::script_lines::Role;
 
-/// Says that a name is declared a second time, and shows it.
+/// Says that a name is declared a second time, and shows the second declaration.
 fn mark_again(page: &mut Page, spot: Spot) {
     page.mark(
         spot,
@@ -17,7 +17,7 @@ fn mark_again(page: &mut Page, spot: Spot) {
     );
 }
 
-/// The index of the earlier line that declares the same name as a line, in the same space; `None` if there is no such line.
+/// The index of the earlier line that declares, in the same space, the name that this line declares; `None` if there is no such line.
 fn first_declaration(lines: &[Line], index: usize, line: &Line) -> Option<usize> {
     let name = line.text_at(1);
     let first = match role(line) {
@@ -42,7 +42,7 @@ fn has_parameter_before(words: &[Word], place: usize, name: &[u8]) -> bool {
     false
 }
 
-/// The first parameter of a line whose name an earlier parameter has; `None` if there is none.
+/// The first parameter of a line that has the name of an earlier parameter; `None` if there is no such parameter.
 fn repeated_parameter<'a>(line: &Line<'a>) -> Option<Spot<'a>> {
     for (place, word) in line.words.iter().enumerate() {
         let name = before_first(b':', word.text);
@@ -63,7 +63,7 @@ fn help_for_role(role: Role) -> &'static str {
     }
 }
 
-/// Says which name a line declares a second time, and where it is declared first.
+/// Says which name a line declares a second time, and where the name is declared first.
 pub fn explain_double_name(page: &mut Page, lines: &[Line], index: usize) {
     let Some(line) = lines.get(index) else {
         return;

@@ -1,4 +1,4 @@
-//! What a name means elsewhere in the script if it is unknown where it is used.
+//! What an unknown name means in other places of the script.
 
 use crate::further_lines::mark_name;
 use crate::lines::Line;
@@ -6,12 +6,13 @@ use crate::spaces::{find_item, find_local, find_local_anywhere, has_self, line_o
 use wb_pages::{Page, Shown};
 use wb_tree::script_lines::{ItemKind, LocalKind};
 
-/// What a name means elsewhere in the script, and the index of the line that declares it there.
+/// What a name means elsewhere in the script, and the index of the line that declares the name there.
 #[derive(Clone, Copy)]
 pub enum Elsewhere {
     /// A field of the class in whose body the name is used.
     FieldOfClass(usize),
-    /// Something of another kind than is expected where the name is used: a message that says what it is, and the line.
+    /// Something of another kind than the place of the name requires: a message that names this kind, and the index of the line that
+    /// declares the name.
     OtherKind(&'static str, usize),
     /// A local of another body.
     OtherBody(usize),
@@ -34,8 +35,7 @@ fn local_problem(kind: LocalKind<&[u8]>) -> &'static str {
     }
 }
 
-/// The index of the line that declares the field with this name, if the line at `index` is in a body of the class with that field; `None`
-/// otherwise.
+/// The index of the line that declares a field with this name, if the line at `index` is in a body of the field's class; `None` otherwise.
 fn field_of_class(lines: &[Line], index: usize, name: &[u8]) -> Option<usize> {
     if has_self(lines, index) {
         line_of_field(lines, index, name)
@@ -44,8 +44,8 @@ fn field_of_class(lines: &[Line], index: usize, name: &[u8]) -> Option<usize> {
     }
 }
 
-/// What a name that no local of the body has means elsewhere: a field of the body's class, a class, a procedure, an operation, or a local
-/// of another body. `None` if it is none of these.
+/// What a name means in other places of the script if the body has no local with this name. The name may be a field of the body's class, a
+/// class, a procedure, an operation, or a local of another body. `None` if the name means none of these.
 pub fn elsewhere_of_local(lines: &[Line], index: usize, name: &[u8]) -> Option<Elsewhere> {
     if let Some(field) = field_of_class(lines, index, name) {
         return Some(Elsewhere::FieldOfClass(field));
@@ -57,8 +57,8 @@ pub fn elsewhere_of_local(lines: &[Line], index: usize, name: &[u8]) -> Option<E
     Some(Elsewhere::OtherBody(local.line))
 }
 
-/// What a name that no class, procedure or operation has means elsewhere: a local of the body. `None` if the body has no such local before
-/// the line.
+/// What a name means elsewhere if no class, procedure or operation has this name: a local of the body. `None` if the body declares no such
+/// local before the line.
 pub fn elsewhere_of_item(lines: &[Line], index: usize, name: &[u8]) -> Option<Elsewhere> {
     let local = find_local(lines, index, name)?;
     Some(Elsewhere::OtherKind(local_problem(local.kind), local.line))

@@ -1,4 +1,4 @@
-//! The forms of the language's lines, as messages write them: the word that begins each, and placeholders for its operands.
+//! The forms of the language's lines, as messages write them. A form is the first word of a line and placeholders for the line's operands.
 
 use crate::lines::Line;
 use wb_lines::forms::operand_of;
@@ -8,8 +8,8 @@ use wb_lines::words::text_of_keyword;
 use wb_pages::{Page, Shown, Word};
 use wb_tree::script_lines::{LineKind, OperandPlace};
 
-/// The operand place of the word at `place` in lines of this kind: `place` is 0 for the first word, and counts operands from 1. `None` for
-/// the first word, and if there may be no such word.
+/// The operand place of the word at `place` in lines of this kind. `place` is 0 for the first word, and counts operands from 1. The result
+/// is `None` for the first word, or if lines of this kind can't have a word at `place`.
 pub fn operand_place_at(line_kind: LineKind, place: usize) -> Option<OperandPlace> {
     if place == 0 {
         return None;
@@ -17,13 +17,13 @@ pub fn operand_place_at(line_kind: LineKind, place: usize) -> Option<OperandPlac
     OperandPlaces::of(line_kind).at(place - 1)
 }
 
-/// The operand place of the word at `place` in a line, by the kind of the line; `None` for the first word, and if there may be no such
-/// word.
+/// The operand place of the word at `place` in a line, according to the kind of the line. The result is `None` for the first word, or if
+/// such a line can't have a word at `place`.
 pub fn operand_place_of(line: &Line, place: usize) -> Option<OperandPlace> {
     operand_place_at(line.line_kind()?, place)
 }
 
-/// Whether a line of this kind may have this number of words, the first word included.
+/// Whether a line of this kind may have this number of words, counting the first word.
 pub fn admits_count(line_kind: LineKind, words: usize) -> bool {
     OperandPlaces::of(line_kind).admit(words.saturating_sub(1))
 }
@@ -49,7 +49,7 @@ fn fits_at(line_kind: LineKind, place: usize, word: &[u8]) -> bool {
     }
 }
 
-/// The place of the first word that doesn't fit the form; `None` if all fit.
+/// The place of the first word that doesn't fit the form; `None` if all words fit.
 pub fn first_wrong_word(line_kind: LineKind, words: &[Word]) -> Option<usize> {
     for (place, word) in words.iter().enumerate() {
         if !fits_at(line_kind, place, word.text) {

@@ -1,4 +1,4 @@
-//! An operand of a wrong kind: what is expected in its place, what the operand is, and where it is declared.
+//! An operand of a wrong kind: what its place requires, what the operand is, and where the operand is declared.
 
 use crate::arguments::explain_arguments;
 use crate::blocks::{Blocks, role, role_at};
@@ -16,7 +16,7 @@ use wb_lines::words::{after_first_of, before_first};
 use wb_pages::{Page, Shown, Spot, Word};
 use wb_tree::script_lines::{LineKind, OperandKind, OperandPlace, Role};
 
-/// Whether what a word refers to is right in this operand place.
+/// Whether a word is of a kind that this operand place takes.
 fn fits_letter(lines: &[Line], index: usize, operand_place: OperandPlace, word: &[u8]) -> bool {
     takes(
         operand_place,
@@ -24,7 +24,7 @@ fn fits_letter(lines: &[Line], index: usize, operand_place: OperandPlace, word: 
     )
 }
 
-/// Whether what a word refers to is right in its operand place; true if the word has no operand place.
+/// Whether a word is of a kind that its operand place takes; true if the word has no operand place.
 fn fits_place(
     lines: &[Line],
     index: usize,
@@ -37,7 +37,7 @@ fn fits_place(
     }
 }
 
-/// The place of the first word of a wrong kind; `None` if there is none.
+/// The place of the first word of a wrong kind; `None` if there is no such word.
 fn first_wrong_operand(lines: &[Line], index: usize, line: &Line) -> Option<usize> {
     for (place, word) in line.words.iter().enumerate() {
         if !fits_place(lines, index, operand_place_of(line, place), word.text) {
@@ -47,7 +47,7 @@ fn first_wrong_operand(lines: &[Line], index: usize, line: &Line) -> Option<usiz
     None
 }
 
-/// Says what a word is, and shows it.
+/// Says of which kind a word is, and shows the word.
 fn mark_kind(page: &mut Page, spot: Spot, is: &str) {
     page.mark(
         spot,
@@ -55,12 +55,12 @@ fn mark_kind(page: &mut Page, spot: Spot, is: &str) {
     );
 }
 
-/// The part of a field before its dot, to be shown.
+/// The part of a field before the dot, as a part of the line to show.
 fn spot_of_holder<'a>(line: &Line<'a>, word: Word<'a>) -> Spot<'a> {
     line.part(word.column, before_first(b'.', word.text))
 }
 
-/// The name of the class in the word of a parameter, to be shown.
+/// The name of the class in the word of a parameter, as a part of the line to show.
 fn spot_of_class<'a>(line: &Line<'a>, word: Word<'a>) -> Spot<'a> {
     let class = after_first_of(b':', word.text);
     let end = word.column.saturating_add(word.text.len());
@@ -80,7 +80,7 @@ fn explain_holder(page: &mut Page, lines: &[Line], index: usize, spot: Spot) {
     );
 }
 
-/// Says that the class of a parameter is not a class.
+/// Says that the name in the class's place of a parameter isn't the name of a class.
 fn explain_parameter(page: &mut Page, lines: &[Line], spot: Spot) {
     mark_kind(page, spot, "not a class");
     if let Some(item) = line_of_item(lines, spot.word) {
@@ -131,7 +131,7 @@ fn explain_operand(page: &mut Page, lines: &[Line], index: usize, line: &Line, p
     }
 }
 
-/// Says how the item of a pointer is popped, if a line pops a pointer in place of a number.
+/// Says how a script pops the item of a pointer, if a line pops with a pointer where a number is required.
 fn help_with_pop(page: &mut Page, lines: &[Line], index: usize, line: &Line) {
     let pops = matches!(line.line_kind(), Some(LineKind::Pop | LineKind::PopDestroy));
     if pops && is_pointer_kind(operand_kind_in_body(lines, index, line.text_at(1))) {
@@ -141,7 +141,7 @@ fn help_with_pop(page: &mut Page, lines: &[Line], index: usize, line: &Line) {
     }
 }
 
-/// Whether a line is a `set` with a pointer on one side only.
+/// Whether a line is a `set` with a pointer on one side, and no pointer on the other side.
 fn sides_differ(lines: &[Line], index: usize, line: &Line) -> bool {
     let target = operand_kind_in_body(lines, index, line.text_at(1));
     let source = operand_kind_in_body(lines, index, line.text_at(2));
@@ -166,7 +166,7 @@ fn explain_sides(page: &mut Page, lines: &[Line], index: usize, line: &Line) {
     page.write_help_text("`set` takes two pointers, or an int and a number");
 }
 
-/// Whether a line gives `main` parameters, or makes it a class or an operation.
+/// Whether a line declares `main` with parameters, or as a class or an operation.
 fn misuses_main(line: &Line) -> bool {
     let begins_item = matches!(role(line), Role::Class | Role::Procedure);
     let is_plain = matches!(line.line_kind(), Some(LineKind::Proc)) && line.words.len() == 2;
@@ -184,7 +184,7 @@ fn explain_main(page: &mut Page, line: &Line) {
     });
 }
 
-/// The index of the first line of the innermost `trap` that is open; `None` if none is.
+/// The index of the first line of the innermost open `trap`; `None` if no `trap` is open.
 fn open_trap(lines: &[Line], blocks: &Blocks) -> Option<usize> {
     let mut trap = None;
     for block in &blocks.open {
@@ -212,7 +212,7 @@ fn explain_return(page: &mut Page, lines: &[Line], index: usize, line: &Line, bl
     }
 }
 
-/// The help on how to end a body that isn't a procedure's. A body that must not leave has no `return` at all.
+/// The help on how to end a body that isn't a procedure's. In a body that must not leave, no `return` is allowed at all.
 fn help_of_return(body: Role) -> &'static str {
     match body {
         Role::Construct => "`return` without a pointer ends the body",

@@ -1,4 +1,4 @@
-//! A line that may leave, in a body that must not.
+//! A line that may leave, in a body that must not leave.
 
 use crate::further_lines::mark_line;
 use crate::lines::Line;
@@ -7,14 +7,14 @@ use wb_lines::line_kinds::{is_quiet, line_kinds, role_of, text_of};
 use wb_pages::{Page, Shown};
 use wb_tree::script_lines::{LineKind, Role};
 
-/// Whether a message names this line kind among those that are allowed in every body. `else` and `end` aren't named, since they go with the
-/// first line of their block.
+/// Whether a message lists this line kind among the line kinds that are allowed in every body. `else` and `end` aren't listed, because they
+/// belong to the first line of their block.
 fn is_listed(line_kind: LineKind) -> bool {
     is_quiet(line_kind) && !matches!(role_of(line_kind), Role::Else | Role::End)
 }
 
-/// Writes the first words of the line kinds that are named, each word once, with `and` before the last. In the table, line kinds with the
-/// same word follow one another.
+/// Writes the first words of the line kinds that are listed. Each word is written once, with `and` before the last word. Line kinds with
+/// the same first word are neighbours in the table.
 fn write_allowed_words(page: &mut Page) {
     let mut before = "`";
     let mut word: &[u8] = b"";
@@ -31,7 +31,7 @@ fn write_allowed_words(page: &mut Page) {
     page.write(format_args!(" and `{}`", Shown::word(word)));
 }
 
-/// Says which line may leave, and in what body it is.
+/// Says which line may leave, and in what body the line is.
 pub fn explain_may_leave(page: &mut Page, lines: &[Line], index: usize) {
     let Some(line) = lines.get(index) else {
         return;

@@ -1,6 +1,6 @@
 //! Why a script was refused: which line and word, what is wrong with it, and what to write instead, as text for standard error.
 //!
-//! All of this is plain functions from values to text. No report depends on them.
+//! The functions turn values into text and have no other effect. No report depends on them.
 #![tactic(auto)]
 
 mod arguments;

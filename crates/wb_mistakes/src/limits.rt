@@ -1,4 +1,4 @@
-//! A limit that a line exceeds: which one, and what was counted.
+//! A limit that a line exceeds: which limit, and what was counted.
 
 use crate::blocks::{Blocks, role, role_at};
 use crate::lines::Line;
@@ -27,7 +27,7 @@ fn is_long(name: &[u8]) -> bool {
     name.len() > LONGEST_NAME as usize && is_name(name)
 }
 
-/// The length in bytes of the part of a word that is a name longer than names may be; 0 if no part is.
+/// The length in bytes of a name in a word, if the name is longer than names may be; 0 if the word has no such name.
 fn long_name_length(word: &[u8]) -> usize {
     let byte = if is_parameter(word) { b':' } else { b'.' };
     if is_long(before_first(byte, word)) {
@@ -54,7 +54,7 @@ fn name_excess(line: &Line) -> Option<Excess> {
     None
 }
 
-/// The number of parameters that a line declares. The pointer of an operation counts as one.
+/// The number of parameters that a line declares. The pointer of an operation counts as a parameter.
 fn parameter_count(line: &Line) -> usize {
     let mut count: usize = 0;
     for operand in line.operands() {
@@ -65,8 +65,8 @@ fn parameter_count(line: &Line) -> usize {
     count
 }
 
-/// Whether a line has the wanted role: that of classes, fields, procedures with operations, or declarations. False if any other role is
-/// wanted.
+/// Whether a line has the wanted role: the role of classes, of fields, of procedures and operations, or of declarations. For any other
+/// wanted role the result is false.
 fn has_role(line: &Line, wanted: Role) -> bool {
     matches!(
         (role(line), wanted),
@@ -77,7 +77,7 @@ fn has_role(line: &Line, wanted: Role) -> bool {
     )
 }
 
-/// The number of lines of a role from one index to another, both included.
+/// The number of lines with a role from the index `from` to the index `to`, both included.
 fn count_between(lines: &[Line], from: usize, to: usize, wanted: Role) -> usize {
     let mut count: usize = 0;
     for (index, line) in lines.iter().enumerate() {
@@ -88,7 +88,7 @@ fn count_between(lines: &[Line], from: usize, to: usize, wanted: Role) -> usize 
     count
 }
 
-/// The number of locals that a body has up to a line, its parameters included.
+/// The number of locals and parameters that a body has up to the line at an index.
 fn local_count(lines: &[Line], index: usize) -> usize {
     let body = body_of(lines, index);
     let declared = count_between(lines, body, index, Role::Declaration);
@@ -111,7 +111,7 @@ fn excess_over(what: &'static str, counted: usize, most: u32, span: Span) -> Opt
     }
 }
 
-/// The size that a word spells; 0 if it spells none.
+/// The size that a word spells; 0 if the word isn't a size.
 fn size_of(word: &[u8]) -> usize {
     match operand_of(OperandPlace::Size, word) {
         Some(Operand::Size(size)) => size as usize,
@@ -119,7 +119,7 @@ fn size_of(word: &[u8]) -> usize {
     }
 }
 
-/// The size in a line that is larger than its limit; `None` if there is none.
+/// The size in a line that exceeds its limit; `None` if the line has no such size.
 fn size_excess(line: &Line) -> Option<Excess> {
     let (what, most) = match line.line_kind()? {
         LineKind::Class => ("extra bytes in a class", MOST_EXTRA),
@@ -129,8 +129,8 @@ fn size_excess(line: &Line) -> Option<Excess> {
     excess_over(what, size_of(line.text_at(2)), most, line.span_at(2))
 }
 
-/// The excess over a limit on a number of things: classes, fields, procedures with operations, locals, or blocks inside one another. `None`
-/// if the line exceeds none of these limits.
+/// The excess over a limit on a number of things: classes, fields, procedures and operations together, locals, or nested blocks. `None` if
+/// the line exceeds none of these limits.
 fn count_excess(lines: &[Line], index: usize, line: &Line, blocks: &Blocks) -> Option<Excess> {
     let role = role(line);
     let (what, counted, most) = match role {
@@ -169,7 +169,7 @@ fn count_excess(lines: &[Line], index: usize, line: &Line, blocks: &Blocks) -> O
     excess_over(what, counted, most, line.span_at(place))
 }
 
-/// How deep blocks are nested if one more is opened inside the open ones.
+/// How deep blocks are nested if one more block is opened inside the open blocks.
 fn block_count(lines: &[Line], blocks: &Blocks) -> usize {
     let mut count: usize = 1;
     for block in &blocks.open {
@@ -189,7 +189,7 @@ fn parameter_excess(line: &Line) -> Option<Excess> {
     )
 }
 
-/// The first limit that a line exceeds; `None` if there is none.
+/// The first limit that a line exceeds; `None` if the line exceeds no limit.
 fn find_excess(lines: &[Line], index: usize, line: &Line, blocks: &Blocks) -> Option<Excess> {
     let found = name_excess(line).or(parameter_excess(line));
     found

@@ -8,8 +8,8 @@ use wb_pages::words::{count_blanks, place_words, trim};
 use wb_pages::{Shown, Span, Spot, Word};
 use wb_tree::script_lines::{Form, LineKind, Operand};
 
-/// A line: its number, its text without the blanks around it, the number of blanks before it, its words, its form, and the index of the
-/// line that begins its body. The last is the nearest line, from this one upwards, that begins a body; 0 if there is none.
+/// A line: its number, its text without the blanks around it, the number of blanks before the text, its words, its form, and `body`. `body`
+/// is the index of the line that begins the body of this line: the nearest such line, from this line upwards; 0 if there is no such line.
 #[derive(Drop)]
 pub struct Line<'a> {
     pub number: usize,
@@ -20,7 +20,7 @@ pub struct Line<'a> {
     pub body: usize,
 }
 
-/// The index of the line that begins the body of the next line, which has this form and comes after these lines.
+/// The index of the line that begins the body of the next line. The next line comes directly after these lines, and has this form.
 fn body_after(lines: &[Line], form: &Form<&[u8]>) -> usize {
     match (body_in(form), lines.last()) {
         (Some(_), _) => lines.len(),
@@ -69,7 +69,7 @@ pub fn lines_of<'a>(alloc: Global, bytes: &'a [u8]) -> Result<Vec<Line<'a>>, All
 }
 
 impl<'a> Line<'a> {
-    /// The kind of the line; `None` if the line has no form, is blank, or is a comment.
+    /// The kind of the line; `None` if the line has no form, or is blank or a comment.
     pub fn line_kind(&self) -> Option<LineKind> {
         match &self.form {
             Form::Line(line_kind, _) => Some(*line_kind),
@@ -77,7 +77,7 @@ impl<'a> Line<'a> {
         }
     }
 
-    /// The operands of the line; empty if the line has no form, is blank, or is a comment.
+    /// The operands of the line; empty if the line has no form, or is blank or a comment.
     pub fn operands(&self) -> &[Operand<&'a [u8]>] {
         match &self.form {
             Form::Line(_, operands) => operands.as_slice(),
@@ -85,12 +85,12 @@ impl<'a> Line<'a> {
         }
     }
 
-    /// The word with an index; `None` if there is none.
+    /// The word with an index; `None` if there is no such word.
     pub fn word(&self, index: usize) -> Option<Word<'a>> {
         self.words.get(index).copied()
     }
 
-    /// The text of the word with an index; empty if there is none.
+    /// The text of the word with an index; empty if there is no such word.
     pub fn text_at(&self, index: usize) -> &'a [u8] {
         match self.word(index) {
             Some(word) => word.text,
@@ -103,7 +103,7 @@ impl<'a> Line<'a> {
         Shown::word(self.text_at(index))
     }
 
-    /// The text of the last word; empty if the line has none.
+    /// The text of the last word; empty if the line has no words.
     pub fn last_text(&self) -> &'a [u8] {
         match self.words.last() {
             Some(word) => word.text,
@@ -111,7 +111,7 @@ impl<'a> Line<'a> {
         }
     }
 
-    /// The first word; `None` if the line has none or is a comment.
+    /// The first word; `None` if the line has no words or is a comment.
     pub fn first(&self) -> Option<Word<'a>> {
         match self.word(0) {
             Some(word) if !begins_comment(word.text) => Some(word),
@@ -119,7 +119,7 @@ impl<'a> Line<'a> {
         }
     }
 
-    /// The columns of the word with an index; those of the whole line if there is no such word.
+    /// The columns of the word with an index; the columns of the whole line if there is no such word.
     pub fn span_at(&self, index: usize) -> Span {
         match self.word(index) {
             Some(word) => word.span(),
@@ -127,12 +127,12 @@ impl<'a> Line<'a> {
         }
     }
 
-    /// The word with an index, to be shown; the whole line if there is no such word.
+    /// The word with an index, as a part of the line to show; the whole line if there is no such word.
     pub fn spot(&self, index: usize) -> Spot<'a> {
         Spot::of_word(self.number, self.text, &self.words, index)
     }
 
-    /// A part of the line, to be shown, and the word that a message about this part names.
+    /// A part of the line to show, and the word that a message about this part names.
     pub fn spot_of(&self, span: Span, word: &'a [u8]) -> Spot<'a> {
         Spot {
             number: self.number,
@@ -142,13 +142,13 @@ impl<'a> Line<'a> {
         }
     }
 
-    /// A word of the line that begins in this column, or a part of a word, to be shown.
+    /// A part of the line to show: a word, or a part of a word, that begins in this column.
     pub fn part(&self, column: usize, word: &'a [u8]) -> Spot<'a> {
         let length = word.len();
         self.spot_of(Span { column, length }, word)
     }
 
-    /// The whole line, to be shown, and no word of it.
+    /// The whole line as the part to show, without a word for messages.
     pub fn whole(&self) -> Spot<'a> {
         Spot::of_line(self.number, self.text)
     }

@@ -7,7 +7,7 @@ use crate::spaces::find_item;
 use wb_pages::Page;
 use wb_tree::script_lines::ItemKind;
 
-/// Says that there is no `main`, and which procedure may be meant to be `main`.
+/// Says that there is no `main`, and which procedure may be meant as `main`.
 pub fn explain_no_main(page: &mut Page, lines: &[Line]) {
     page.write_file_text("the script has no procedure `main`");
     let near = nearest_item(lines, ItemKind::Procedure, b"main");

@@ -1,4 +1,4 @@
-//! What a line seems to mean, written out as a script has it: a member behind an arrow, a text in other quotes, a sum, or what is missing.
+//! What a line seems to mean, written as a script writes it: a member after an arrow, a text in other quotes, a sum, or a missing word.
 
 use crate::lines::Line;
 use crate::words::{digits, is_numeral};
@@ -13,7 +13,7 @@ const SUBTRACTING: [&[u8]; 6] = [b"sub", b"subtract", b"minus", b"dec", b"decr",
 /// Words by which other languages add.
 const ADDING: [&[u8]; 4] = [b"inc", b"incr", b"increment", b"plus"];
 
-/// What comes before a text in C++, and the quote that ends it.
+/// The characters before a text in other languages, and the quote that ends such a text.
 const OPENINGS: [(&[u8], u8); 5] = [
     (b"'", b'\''),
     (b"_L(\"", b'"'),
@@ -22,7 +22,7 @@ const OPENINGS: [(&[u8], u8); 5] = [
     (b"_S(\"", b'"'),
 ];
 
-/// The names before and after the arrow in a word such as `n->b`, perhaps with a `;` or `,` behind it; `None` for any other word.
+/// The names before and after the arrow in a word such as `n->b`, perhaps followed by `;` or `,`; `None` for any other word.
 fn member_in<'a>(word: &'a [u8]) -> Option<(&'a [u8], &'a [u8])> {
     let base = before_first(b'-', word);
     let name = match after_first_of(b'-', word) {
@@ -37,7 +37,7 @@ fn member_in<'a>(word: &'a [u8]) -> Option<(&'a [u8], &'a [u8])> {
     }
 }
 
-/// Says how a script names a member, if a word names one behind an arrow. Returns whether it does.
+/// Says how a script names a member, if a word names a member after an arrow. Returns whether a word names a member in this way.
 pub fn help_with_member(page: &mut Page, word: &[u8]) -> bool {
     let Some((base, name)) = member_in(word) else {
         return false;
@@ -55,7 +55,8 @@ pub fn help_with_member(page: &mut Page, word: &[u8]) -> bool {
     true
 }
 
-/// A text in other quotes than a script has: the place of the word in which it begins, the part of the line that it takes, and what it says.
+/// A text in other quotes than a script uses. `place` is the place of the word in which the text begins, `spot` is the part of the line
+/// that the text takes up, and `text` is the text itself.
 #[derive(Clone, Copy)]
 pub struct OtherText<'a> {
     pub place: usize,
@@ -63,7 +64,8 @@ pub struct OtherText<'a> {
     text: &'a [u8],
 }
 
-/// How many bytes come before a text that begins with this word, and the quote that ends it; `None` if no text begins there.
+/// How many characters come before the text that begins with this word, and the quote that ends the text; `None` if no text begins with
+/// this word.
 fn opening_of(word: &[u8]) -> Option<(usize, u8)> {
     for (opening, quote) in &OPENINGS {
         if word.starts_with(opening) {
@@ -73,7 +75,7 @@ fn opening_of(word: &[u8]) -> Option<(usize, u8)> {
     None
 }
 
-/// The text that begins with a word of a line, if it is in other quotes and ends on the line; `None` otherwise.
+/// The text that begins with a word of a line, if the text is in other quotes and ends on the same line; `None` otherwise.
 fn text_from<'a>(line: &Line<'a>, place: usize, word: Word<'a>) -> Option<OtherText<'a>> {
     let (opening, quote) = opening_of(word.text)?;
     let (_, rest) = line
@@ -95,7 +97,7 @@ fn text_from<'a>(line: &Line<'a>, place: usize, word: Word<'a>) -> Option<OtherT
     })
 }
 
-/// The first text of a line that is in other quotes than a script has; `None` if there is none.
+/// The first text of a line that is in other quotes than a script uses; `None` if there is no such text.
 pub fn other_text<'a>(line: &Line<'a>) -> Option<OtherText<'a>> {
     for (place, word) in line.words.iter().enumerate() {
         if let Some(found) = text_from(line, place, *word) {
@@ -105,7 +107,7 @@ pub fn other_text<'a>(line: &Line<'a>) -> Option<OtherText<'a>> {
     None
 }
 
-/// Says that a text is in other quotes than a script has.
+/// Says that a text is in other quotes than a script uses.
 pub fn explain_other_text(page: &mut Page, found: OtherText) {
     page.mark(found.spot, "a text stands between two `\"`");
     page.write_help(format_args!("did you mean `\"{}\"`?", Shown::word(found.text)));
@@ -115,7 +117,7 @@ fn is_among(words: &[&[u8]], word: &[u8]) -> bool {
     words.iter().any(|it| word == *it)
 }
 
-/// A number that a line adds to an int or subtracts from it, in other words than a script has.
+/// A number that a line adds to an int or subtracts from an int, in other words than a script uses.
 #[derive(Clone, Copy)]
 struct Sum<'a> {
     target: &'a [u8],
@@ -123,7 +125,7 @@ struct Sum<'a> {
     is_less: bool,
 }
 
-/// The int and the sign of a word such as `n++` or `--n`, perhaps with a `;` behind it; `None` for any other word.
+/// The int and the sign of a word such as `n++` or `--n`, perhaps followed by `;`; `None` for any other word.
 fn step_in<'a>(word: &'a [u8]) -> Option<Sum<'a>> {
     let bare = match word {
         [bare @ .., b';'] => bare,
@@ -141,7 +143,7 @@ fn step_in<'a>(word: &'a [u8]) -> Option<Sum<'a>> {
     })
 }
 
-/// What a line adds or subtracts in other words than a script has; `None` if it does neither.
+/// What a line adds or subtracts in other words than a script uses; `None` if the line neither adds nor subtracts.
 fn sum_of<'a>(line: &Line<'a>) -> Option<Sum<'a>> {
     let word = line.text_at(0);
     let is_less = is_among(&SUBTRACTING, word);
@@ -159,7 +161,7 @@ fn sum_of<'a>(line: &Line<'a>) -> Option<Sum<'a>> {
     })
 }
 
-/// Says how a script adds or subtracts, if a line does so in other words. Returns whether it does.
+/// Says how a script adds or subtracts, if a line does so in other words. Returns whether the line adds or subtracts in other words.
 pub fn help_with_sum(page: &mut Page, line: &Line) -> bool {
     let Some(
         Sum {
@@ -190,7 +192,7 @@ pub fn help_with_sum(page: &mut Page, line: &Line) -> bool {
     true
 }
 
-/// Says what is missing in a line with too few words, as far as its form alone doesn't say it.
+/// Says what is missing in a line with too few words, if the line's form alone doesn't say this.
 pub fn help_with_missing(page: &mut Page, line: &Line, line_kind: LineKind) {
     let (name, count) = (line.shown_word(1), line.words.len());
     match line_kind {
@@ -208,11 +210,11 @@ pub fn help_with_missing(page: &mut Page, line: &Line, line_kind: LineKind) {
     }
 }
 
-/// The hint that says which of two pointers is written.
+/// The hint that says which of two pointers a line changes.
 const GETS_ANSWER: &str =
     "the first POINTER gets the answer, the second names the cell; both may be the same";
 
-/// Says what a line seems to mean that names one pointer and a number where its form has two pointers.
+/// Says what a line seems to mean that has one pointer and a number, if its form has two pointers.
 fn help_with_number(page: &mut Page, line: &Line) {
     let number = line.text_at(2);
     if line.words.len() == 3 && operand_of(OperandPlace::Value, number).is_some() {

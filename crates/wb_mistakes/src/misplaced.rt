@@ -12,8 +12,8 @@ fn is_further_left(lines: &[Line], closed: ClosedBlock) -> bool {
     indent_at(lines, closed.end) < indent_at(lines, closed.first)
 }
 
-/// Says which block seems to lack its `end`: the closed one whose `end` is further left than its first line, or else the innermost open
-/// one.
+/// Says which block seems to lack its `end`. If there is a closed block whose `end` is further left than its first line, this block seems
+/// to lack it. If there is no such block, the innermost open block seems to lack it.
 fn mark_unclosed(page: &mut Page, lines: &[Line], blocks: &Blocks) {
     match blocks.misaligned {
         Some(closed) if is_further_left(lines, closed) => {
@@ -40,8 +40,8 @@ fn mark_open(page: &mut Page, lines: &[Line], block: Option<&Block>) {
     }
 }
 
-/// Says which `end` closes which block: that of the first block whose `end` and first line are indented differently, or else that of the
-/// block closed last.
+/// Says which `end` closes which block: for the first block whose `end` and first line are indented differently, or else for the block that
+/// was closed last.
 fn mark_closed(page: &mut Page, lines: &[Line], blocks: &Blocks) {
     if let Some(closed) = blocks.misaligned.or(blocks.last_closed) {
         mark_line(page, lines, closed.end, "this `end` closes");
@@ -49,7 +49,7 @@ fn mark_closed(page: &mut Page, lines: &[Line], blocks: &Blocks) {
     }
 }
 
-/// Says what is wrong with the first word of a line, and shows it.
+/// Says what is wrong with the first word of a line, and shows the word.
 fn refuse(page: &mut Page, line: &Line, problem: &str) {
     let spot = line.spot(0);
     page.mark(spot, format_args!("`{}` {problem}", spot.shown_word()));
@@ -103,7 +103,7 @@ fn explain_in_class(page: &mut Page, lines: &[Line], blocks: &Blocks, block: Blo
     page.write_help_text("a class has its fields, then `construct`, then `destroy`, then `end`");
 }
 
-/// The index of the first statement of the innermost body; `None` if it has none.
+/// The index of the first statement of the innermost body; `None` if the body has no statement.
 fn first_statement(lines: &[Line], blocks: &Blocks) -> Option<usize> {
     let body = open_body(blocks);
     for (index, line) in lines.iter().enumerate() {
@@ -114,7 +114,7 @@ fn first_statement(lines: &[Line], blocks: &Blocks) -> Option<usize> {
     None
 }
 
-/// The index of the line that begins the innermost body; 0 if none is open.
+/// The index of the line that begins the innermost body; 0 if no body is open.
 fn open_body(blocks: &Blocks) -> usize {
     let mut body = 0;
     for block in &blocks.open {
@@ -142,8 +142,8 @@ fn is_if_above(lines: &[Line], closed: ClosedBlock, line: &Line) -> bool {
         && line.indent == indent_at(lines, closed.first)
 }
 
-/// The block that was closed last, if it is an `if` inside this open block with the same indentation as this `else`, which then seems to be
-/// meant for that `if`; `None` otherwise.
+/// The block that was closed last, if this `else` seems to be meant for the block. Then the block is an `if` inside this open block, and
+/// the `else` has the same indentation as this `if`. `None` if the block isn't such an `if`.
 fn find_ended_if(
     lines: &[Line],
     blocks: &Blocks,
@@ -166,7 +166,7 @@ fn explain_else_after_if(page: &mut Page, lines: &[Line], closed: ClosedBlock, l
     page.write_help_text("an `if` with an `else` has one `end`, after both parts");
 }
 
-/// Explains an `else` that is not inside an `if`, or inside one that has an `else`.
+/// Explains an `else` that isn't inside an `if`, or that is inside an `if` with another `else`.
 fn explain_loose_else(page: &mut Page, lines: &[Line], block: Block, line: &Line) {
     let problem = match block.state {
         BlockState::ElsePart => "is the second one in its `if`",
@@ -186,7 +186,7 @@ fn explain_late_else(page: &mut Page, lines: &[Line], blocks: &Blocks, block: Bl
     }
 }
 
-/// What to write in a body in place of a line that belongs in a class.
+/// The help that says what to write in a body instead of a line that belongs in a class.
 fn help_in_body(line: &Line) -> &'static str {
     match role(line) {
         Role::Construct => "`construct POINTER` completes an object",
@@ -203,7 +203,7 @@ fn is_in_class(lines: &[Line], blocks: &Blocks) -> bool {
     }
 }
 
-/// Explains a line that belongs in a class and is in a body of the class.
+/// Explains a line that belongs directly in a class, but is in a body of the class.
 fn explain_in_class_body(page: &mut Page, lines: &[Line], blocks: &Blocks, line: &Line) {
     refuse(page, line, "is not allowed in a body");
     mark_unclosed(page, lines, blocks);
@@ -213,7 +213,7 @@ fn explain_in_class_body(page: &mut Page, lines: &[Line], blocks: &Blocks, line:
     }
 }
 
-/// Explains a line that belongs in a class and is in a procedure or an operation.
+/// Explains a line that belongs in a class, but is in a procedure or an operation.
 fn explain_in_procedure(page: &mut Page, lines: &[Line], blocks: &Blocks, line: &Line) {
     let problem = match role(line) {
         Role::Construct => "without a pointer begins a body of a class, but no class is open",
@@ -255,7 +255,7 @@ fn explain_missing_end(page: &mut Page, lines: &[Line], blocks: &Blocks, line: &
     );
 }
 
-/// Explains a line that is not allowed in this block, the innermost open one.
+/// Explains a line that isn't allowed in this block, which is the innermost open block.
 fn explain_in_block(page: &mut Page, lines: &[Line], blocks: &Blocks, block: Block, line: &Line) {
     let is_complete = is_class_state(block.state) && blocks.misaligned.is_none();
     match role(line) {
@@ -271,7 +271,7 @@ fn explain_in_block(page: &mut Page, lines: &[Line], blocks: &Blocks, block: Blo
     }
 }
 
-/// Says why a line is not allowed where it is.
+/// Says why a line isn't allowed at its place in the script.
 pub fn explain_misplaced(page: &mut Page, lines: &[Line], blocks: &Blocks, line: &Line) {
     match blocks.open.last() {
         None => explain_outside(page, lines, blocks, line),
@@ -279,7 +279,7 @@ pub fn explain_misplaced(page: &mut Page, lines: &[Line], blocks: &Blocks, line:
     }
 }
 
-/// Says that the file ends before its blocks do.
+/// Says that the file ends before all of its blocks have ended.
 pub fn explain_early_end(page: &mut Page, lines: &[Line], blocks: &Blocks, number: usize) {
     page.write_message(number, "the file ends, but an `end` is missing");
     mark_unclosed(page, lines, blocks);

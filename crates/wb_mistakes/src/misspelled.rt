@@ -40,7 +40,7 @@ fn first_comment<'a>(line: &Line<'a>) -> Option<Word<'a>> {
     None
 }
 
-/// Whether a quote is left open in a word.
+/// Whether a word opens a quote without closing the quote.
 fn leaves_quote_open(word: &[u8]) -> bool {
     let mut is_open = false;
     for byte in word {
@@ -49,7 +49,7 @@ fn leaves_quote_open(word: &[u8]) -> bool {
     is_open
 }
 
-/// The word in which a quote is left open; `None` if there is none.
+/// The word of a line that opens a quote without closing the quote; `None` if there is no such word.
 fn open_quote<'a>(line: &Line<'a>) -> Option<Word<'a>> {
     match line.words.last() {
         Some(last) if leaves_quote_open(last.text) => Some(*last),
@@ -57,7 +57,7 @@ fn open_quote<'a>(line: &Line<'a>) -> Option<Word<'a>> {
     }
 }
 
-/// The nearest to this word among the words that begin forms; `None` if no such word is near.
+/// Among the words that begin forms, the word that is nearest to this word; `None` if no such word is near.
 fn nearest_statement(word: &[u8]) -> Option<Candidate<'static>> {
     let mut search = Search::of(word);
     for line_kind in line_kinds() {
@@ -66,7 +66,7 @@ fn nearest_statement(word: &[u8]) -> Option<Candidate<'static>> {
     search.found
 }
 
-/// Says what may be meant by a first word that is neither a statement nor C++.
+/// Says what the first word of a line may mean, if the word is neither a statement nor C++.
 fn help_with_statement(page: &mut Page, line: &Line) {
     match nearest_statement(line.text_at(0)) {
         Some(near) => {
@@ -84,7 +84,7 @@ fn help_with_statement(page: &mut Page, line: &Line) {
     }
 }
 
-/// Says how a procedure is called, if a line begins with the name of one. Returns whether it does.
+/// Says how a script calls a procedure, if a line begins with the name of a procedure. Returns whether the line begins with such a name.
 fn help_with_call(page: &mut Page, lines: &[Line], line: &Line) -> bool {
     match find_item(lines, line.text_at(0)) {
         Some(item) if matches!(item.kind, ItemKind::Procedure) => {
@@ -121,8 +121,8 @@ fn explain_statement(page: &mut Page, lines: &[Line], line: &Line) {
     }
 }
 
-/// Whether a line may be meant as a line of this kind, whatever the number of its words. The first word must be right, the keyword of a
-/// condition too, and a `set` must have a field as its target just if the line kind does.
+/// Whether a line may be meant as a line of this kind, whatever the number of its words. The first word must be right. The keyword of a
+/// condition must be right too. The target of a `set` must be a field exactly if this line kind has a field as its target.
 fn is_intended(line_kind: LineKind, line: &Line) -> bool {
     let is_right = match operand_places_of(line_kind).first() {
         Some(OperandPlace::Keyword(_) | OperandPlace::FieldTarget) => first_wrong_word(
@@ -135,8 +135,8 @@ fn is_intended(line_kind: LineKind, line: &Line) -> bool {
     begins_with(line_kind, line.text_at(0)) && is_right
 }
 
-/// The line kind that a line is meant to be of. Of those that may be meant, it is the first that admits the number of words in the line, or
-/// else the last; `None` if none may be meant.
+/// The line kind that a line seems to be meant as: the first possible kind that admits the line's number of words, or else the last
+/// possible kind. The result is `None` if no kind is possible.
 fn intended_key(line: &Line) -> Option<LineKind> {
     let mut found = None;
     for line_kind in line_kinds() {
@@ -154,7 +154,7 @@ fn is_else_if(line: &Line) -> bool {
     line.text_at(0) == b"else".as_slice() && line.text_at(1) == b"if".as_slice()
 }
 
-/// The first word too many, or the whole line if the line has too few words.
+/// The part of a line to show: the first word too many, or the whole line if the line has too few words.
 fn spot_of_count<'a>(line: &Line<'a>, line_kind: LineKind, is_more: bool) -> Spot<'a> {
     match first_wrong_word(line_kind, &line.words) {
         Some(place) if is_more => line.spot_of(line.span_at(place), line.text_at(0)),
@@ -162,7 +162,7 @@ fn spot_of_count<'a>(line: &Line<'a>, line_kind: LineKind, is_more: bool) -> Spo
     }
 }
 
-/// The first word that doesn't fit a form; empty if all fit.
+/// The first word that doesn't fit a form; empty if all words fit.
 fn first_wrong_text<'a>(line: &Line<'a>, line_kind: LineKind) -> &'a [u8] {
     match first_wrong_word(line_kind, &line.words) {
         Some(place) => line.text_at(place),
@@ -170,7 +170,7 @@ fn first_wrong_text<'a>(line: &Line<'a>, line_kind: LineKind) -> &'a [u8] {
     }
 }
 
-/// Says what a script has in place of a wrong word, if the word is C++; otherwise writes the hint, which may be empty.
+/// Says what a script uses instead of a wrong word, if the word is C++. If the word isn't C++, writes the hint, unless the hint is empty.
 fn help_with_wrong_word(page: &mut Page, word: &[u8], hint: &str) {
     match cpp_word(word) {
         Some(found) => help_with_cpp(page, found),
@@ -210,7 +210,7 @@ fn help_with_place(page: &mut Page, line_kind: LineKind, operand_place: OperandP
     }
 }
 
-/// Says what is expected in an operand place of a line, and what the form of the line is; says nothing if the line has no form.
+/// Says what is expected in an operand place of a line, and what the form of the line is. Says nothing if the line has no form.
 pub fn help_with_operand(page: &mut Page, line: &Line, operand_place: OperandPlace) {
     if let Some(line_kind) = line.line_kind() {
         help_with_place(page, line_kind, operand_place);
@@ -240,8 +240,8 @@ fn explain_open_quote(page: &mut Page, spot: Spot) {
     );
 }
 
-/// The first word with a colon in the first line of a class: it names a base class or comes before one. `None` if there is no such word, or
-/// the line begins no class.
+/// The word with the first colon in the first line of a class: it names a base class, or comes before the name of a base class. `None` if
+/// there is no such word, or if the line doesn't begin a class.
 fn first_of_base<'a>(line: &Line<'a>, line_kind: LineKind) -> Option<Word<'a>> {
     for word in &line.words {
         if matches!(line_kind, LineKind::Class) && has_byte(b':', word.text) {
@@ -273,8 +273,8 @@ fn explain_words(page: &mut Page, line: &Line, line_kind: LineKind) {
     }
 }
 
-/// A text in other quotes than a script has, with the line kind that is meant and the operand place of the text, if a text may stand there;
-/// `None` otherwise.
+/// A text in other quotes than a script uses, with the line kind that is meant and the text's operand place. The result is `None` if there
+/// is no such text, or if no text may be in that place.
 fn text_meant<'a>(line: &Line<'a>) -> Option<(OtherText<'a>, LineKind, OperandPlace)> {
     let found = other_text(line)?;
     let line_kind = intended_key(line)?;

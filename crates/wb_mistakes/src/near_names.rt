@@ -1,4 +1,4 @@
-//! The declared names that are nearest to an unknown one.
+//! The declared name that is nearest to an unknown name.
 
 use crate::blocks::role;
 use crate::lines::Line;
@@ -16,8 +16,8 @@ fn is_item(line: &Line, kind: ItemKind) -> bool {
     )
 }
 
-/// The class, the procedure or the operation with the nearest name; `kind` says which of the three is searched for. `None` if no name is
-/// near.
+/// The class, procedure or operation with the nearest name. `kind` says which of these three to search for. The result is `None` if no name
+/// is near.
 pub fn nearest_item<'a>(lines: &[Line<'a>], kind: ItemKind, name: &[u8]) -> Option<Candidate<'a>> {
     let mut search = Search::of(name);
     for (index, line) in lines.iter().enumerate() {
@@ -37,7 +37,7 @@ impl<'w, 'a> Search<'w, 'a> {
         }
     }
 
-    /// Considers what one line declares for its body.
+    /// Considers the names that one line declares for its body.
     fn consider_declared(&mut self, line: &Line<'a>, number: usize) {
         self.consider_parameters(line.operands(), number);
         match body_in(&line.form) {
@@ -48,7 +48,8 @@ impl<'w, 'a> Search<'w, 'a> {
     }
 }
 
-/// The local with the nearest name, in the body of the line at `index` and declared before that line; `None` if no name is near.
+/// The local with the nearest name, among the locals that the body of the line at `index` declares before that line; `None` if no name is
+/// near.
 pub fn nearest_local<'a>(lines: &[Line<'a>], index: usize, name: &[u8]) -> Option<Candidate<'a>> {
     let body = body_of(lines, index);
     let mut search = Search::of(name);
@@ -60,7 +61,7 @@ pub fn nearest_local<'a>(lines: &[Line<'a>], index: usize, name: &[u8]) -> Optio
     search.found
 }
 
-/// The field with the nearest name, in the class that begins at line index `class`; `None` if no name is near.
+/// The field with the nearest name, in the class that begins at the line with index `class`; `None` if no name is near.
 pub fn nearest_field<'a>(lines: &[Line<'a>], class: usize, name: &[u8]) -> Option<Candidate<'a>> {
     let mut search = Search::of(name);
     for (index, line) in lines.iter().enumerate() {

@@ -16,7 +16,7 @@ fn hex_digit(value: u8) -> &'static str {
     DIGITS.get(value as usize).copied().unwrap_or("?")
 }
 
-/// The column, counted from 0, of the first byte that no script may hold, and this byte; `None` if there is no such byte.
+/// The first byte that isn't allowed in scripts, with its column, counted from 0; `None` if there is no such byte.
 fn first_foreign_byte(line: &[u8]) -> Option<(usize, u8)> {
     for (column, byte) in line.iter().enumerate() {
         if is_foreign(*byte) {
@@ -26,17 +26,17 @@ fn first_foreign_byte(line: &[u8]) -> Option<(usize, u8)> {
     None
 }
 
-/// The encoding of a file, by the bytes at its beginning.
+/// What the bytes at the beginning of a file say about the file's encoding.
 #[derive(Clone, Copy)]
 enum Beginning {
     /// A byte order mark in UTF-8.
     Mark,
-    /// A byte order mark in UTF-16, or two characters of ASCII in two bytes each.
+    /// A byte order mark in UTF-16, or two characters of ASCII that take two bytes each.
     Wide,
     Other,
 }
 
-/// The encoding of a file, by its first line without the blanks around it.
+/// What the first line of a file, without the blanks around it, says about the file's encoding.
 fn beginning_of(text: &[u8]) -> Beginning {
     match text {
         [0xef, 0xbb, 0xbf, ..] => Beginning::Mark,
@@ -46,8 +46,8 @@ fn beginning_of(text: &[u8]) -> Beginning {
     }
 }
 
-/// Says that a line has a byte outside printable ASCII. If it is the first line of the file, and the file seems to be in another encoding,
-/// says that instead.
+/// Says that a line has a byte outside printable ASCII. For the first line of a file that seems to be in another encoding, says this about
+/// the encoding instead.
 pub fn explain_not_ascii(page: &mut Page, lines: &[Line], index: usize) {
     let Some(line) = lines.get(index) else {
         return;
@@ -77,7 +77,7 @@ pub fn explain_not_ascii(page: &mut Page, lines: &[Line], index: usize) {
     }
 }
 
-/// Says which byte of a line is outside printable ASCII, and in which column it is, counted from 1.
+/// Says which byte of a line is outside printable ASCII, and in which column the byte is, counted from 1.
 fn explain_byte(page: &mut Page, line: &Line) {
     let Some((column, byte)) = first_foreign_byte(line.text) else {
         return;

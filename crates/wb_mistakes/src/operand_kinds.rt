@@ -1,5 +1,5 @@
-//! The kind of a word in an operand place of a line: a pointer, an int, a class and so on. A `Referent` here holds the index of the line
-//! that declares the name.
+//! The kind of a word in an operand place of a line: a pointer, an int, a class and so on. A `Referent` in this module holds the index of
+//! the line that declares a name.
 
 use crate::lines::Line;
 use crate::spaces::{
@@ -80,7 +80,7 @@ fn field_referent(lines: &[Line], index: usize, base: &[u8], field: &[u8]) -> Re
     }
 }
 
-/// What a parameter takes, with what the name of its class refers to.
+/// The type of a parameter, in which a referent replaces the name of the class.
 fn resolved_type(lines: &[Line], parameter_type: ParameterType<&[u8]>) -> ParameterType<Referent> {
     match parameter_type {
         ParameterType::Pointer => ParameterType::Pointer,
@@ -89,7 +89,7 @@ fn resolved_type(lines: &[Line], parameter_type: ParameterType<&[u8]>) -> Parame
     }
 }
 
-/// An operand in this operand place, with what its names refer to.
+/// An operand in this operand place, in which referents replace the names.
 fn resolved_operand(
     lines: &[Line],
     index: usize,
@@ -113,7 +113,7 @@ fn resolved_operand(
     }
 }
 
-/// The kind of a word in this operand place; `Nothing` if the word isn't grammatical there.
+/// The kind of a word in this operand place; `Nothing` if the grammar doesn't allow the word there.
 pub fn operand_kind_of(
     lines: &[Line],
     index: usize,
@@ -131,7 +131,7 @@ pub fn operand_kind_of(
     }
 }
 
-/// The kind of a word that a line of a body uses. The word is read as an operand of `print`, which takes the most kinds.
+/// The kind of a word that a line of a body uses. The word is read as an operand of `print`, because `print` takes the most kinds.
 pub fn operand_kind_in_body(lines: &[Line], index: usize, word: &[u8]) -> OperandKind {
     operand_kind_of(lines, index, OperandPlace::Printed, word)
 }
@@ -154,7 +154,7 @@ pub fn description_of(operand_kind: OperandKind) -> &'static str {
     }
 }
 
-/// The index of the line that declares what a word in this operand place refers to; `None` if no line does.
+/// The index of the line that declares the thing that a word in this operand place refers to; `None` if no line declares it.
 pub fn line_of_declaration(
     lines: &[Line],
     index: usize,

@@ -1,4 +1,4 @@
-//! Which explanation a refused script gets, by its first fault.
+//! Chooses the explanation of a refused script according to the script's first fault.
 
 use crate::blocks::{Blocks, blocks_before};
 use crate::double::explain_double_name;
@@ -15,7 +15,7 @@ use std::alloc::{AllocError, Global};
 use wb_language::fault::ScriptFault;
 use wb_pages::Page;
 
-/// Says why a line is not allowed where it is, or has no form; or that the file ends too early.
+/// Says why a line isn't allowed at its place, or why it has no form; or says that the file ends too early.
 fn explain_grammar(page: &mut Page, lines: &[Line], index: usize, blocks: &Blocks) {
     let number = index.saturating_add(1);
     match lines.get(index) {
@@ -25,12 +25,12 @@ fn explain_grammar(page: &mut Page, lines: &[Line], index: usize, blocks: &Block
     }
 }
 
-/// The index of a line by its number.
+/// The index of the line with this number.
 fn index_of(line: u32) -> usize {
     (line as usize).saturating_sub(1)
 }
 
-/// The number of the line that a fault names; 1 if it names none.
+/// The number of the line that a fault names; 1 if the fault names no line.
 fn line_of(fault: ScriptFault) -> u32 {
     match fault {
         ScriptFault::Grammar { line }
@@ -44,7 +44,7 @@ fn line_of(fault: ScriptFault) -> u32 {
     }
 }
 
-/// Says what is wrong with the line at an index. `blocks` are those that are open before this line.
+/// Says what is wrong with the line at an index. `blocks` are the blocks that are open before this line.
 fn explain_line(
     page: &mut Page,
     lines: &[Line],
@@ -83,11 +83,10 @@ fn explain_too_long(page: &mut Page) {
     page.write_help_text("split it into scripts that can be run separately");
 }
 
-/// Returns why a script was refused, as the whole text for a person, in lines that end with a line feed; the text is empty if there is
-/// nothing to say.
+/// Returns the text that says why a script was refused, in lines that end with a line feed. The text is empty if there is nothing to say.
 ///
-/// `file` is the name of the script's file as messages show it, `bytes` is what was read from that file, and `fault` is the fault that
-/// `wb_script::read` found in these bytes. The only error is that memory ran out.
+/// `file` is the name of the script's file as messages show it, `bytes` are the bytes that were read from this file, and `fault` is the
+/// fault that `wb_script::read` found in these bytes. The only error is that memory ran out.
 pub fn refused_script(
     alloc: Global,
     file: &str,

@@ -1,18 +1,18 @@
-//! What the names of a script refer to, and the line that declares each name. Lines are given by their indexes.
+//! What the names of a script refer to, and the line that declares each name. This module names lines by their indexes.
 
 use crate::blocks::{role, role_at};
 use crate::lines::Line;
 use wb_lines::declares::{item_kind_in, kind_of_parameter, local_kind_in};
 use wb_tree::script_lines::{ItemKind, LineKind, LocalKind, Operand, ParameterType, Role};
 
-/// A local: what it holds, and the index of the line that declares it.
+/// A local: the kind of its value, and the index of the line that declares the local.
 #[derive(Clone, Copy)]
 pub struct LocalAt<'a> {
     pub kind: LocalKind<&'a [u8]>,
     pub line: usize,
 }
 
-/// A class, a procedure or an operation: which of these, and the index of the line that begins it.
+/// A class, a procedure or an operation: which of these three it is, and the index of its first line.
 #[derive(Clone, Copy)]
 pub struct ItemAt {
     pub kind: ItemKind,
@@ -24,7 +24,7 @@ pub fn line_kind_at(lines: &[Line], index: usize) -> Option<LineKind> {
     lines.get(index)?.line_kind()
 }
 
-/// Returns the first class, procedure or operation with a name; `None` if there is none.
+/// Returns the first class, procedure or operation with a name; `None` if nothing has this name.
 pub fn find_item(lines: &[Line], name: &[u8]) -> Option<ItemAt> {
     for (index, line) in lines.iter().enumerate() {
         if let Some(kind) = item_kind_in(&line.form) {
@@ -36,7 +36,7 @@ pub fn find_item(lines: &[Line], name: &[u8]) -> Option<ItemAt> {
     None
 }
 
-/// Returns the index of the line that begins the class with a name; `None` if the name is not that of a class.
+/// Returns the index of the line that begins the class with a name; `None` if no class has this name.
 fn find_class(lines: &[Line], name: &[u8]) -> Option<usize> {
     match find_item(lines, name) {
         Some(
@@ -49,7 +49,7 @@ fn find_class(lines: &[Line], name: &[u8]) -> Option<usize> {
     }
 }
 
-/// The index of the line that begins the body of a line, which may be that line.
+/// The index of the line that begins the body around a line. The line itself may begin the body.
 pub fn body_of(lines: &[Line], index: usize) -> usize {
     match lines.get(index) {
         Some(line) => line.body,
@@ -57,7 +57,8 @@ pub fn body_of(lines: &[Line], index: usize) -> usize {
     }
 }
 
-/// The index of the last line, up to and including the line at `index`, that begins a class; `None` if there is none.
+/// The index of the last line that begins a class, among the lines up to and including the line at `index`; `None` if there is no such
+/// line.
 pub fn class_before(lines: &[Line], index: usize) -> Option<usize> {
     let mut class = None;
     for (at, line) in lines.iter().enumerate() {
@@ -76,7 +77,7 @@ pub fn has_self(lines: &[Line], index: usize) -> bool {
     )
 }
 
-/// What the parameter with this name among the operands takes; `None` if there is no such parameter.
+/// The type of the parameter with this name, among these operands; `None` if there is no such parameter.
 fn parameter_named<'a>(
     operands: &[Operand<&'a [u8]>],
     name: &[u8],
@@ -92,7 +93,7 @@ fn parameter_named<'a>(
     None
 }
 
-/// What the local or parameter with this name holds, if this line declares it; `None` if the line doesn't.
+/// The kind of the local or parameter with this name, if this line declares it; `None` if the line doesn't declare it.
 fn kind_by_line<'a>(line: &Line<'a>, name: &[u8]) -> Option<LocalKind<&'a [u8]>> {
     match parameter_named(line.operands(), name) {
         Some(parameter_type) => Some(kind_of_parameter(parameter_type)),
@@ -101,12 +102,13 @@ fn kind_by_line<'a>(line: &Line<'a>, name: &[u8]) -> Option<LocalKind<&'a [u8]>>
     }
 }
 
-/// Whether a line is a statement. No declaration of the body may come after one.
+/// Whether a line is a statement. All declarations of a body must come before its first statement.
 pub fn is_statement(line: &Line) -> bool {
     matches!(role(line), Role::Plain | Role::Loop | Role::If)
 }
 
-/// Returns the local with a name, in the body of the line at `index` and declared before that line; `None` if there is none.
+/// Returns the local with a name, among the locals that the body of the line at `index` declares before that line; `None` if there is no
+/// such local.
 pub fn find_local<'a>(lines: &[Line<'a>], index: usize, name: &[u8]) -> Option<LocalAt<'a>> {
     for at in body_of(lines, index)..index {
         let line = lines.get(at)?;
@@ -120,7 +122,7 @@ pub fn find_local<'a>(lines: &[Line<'a>], index: usize, name: &[u8]) -> Option<L
     None
 }
 
-/// Returns the first local with a name in any body; `None` if there is none.
+/// Returns the first local with a name in any body; `None` if no body has such a local.
 pub fn find_local_anywhere<'a>(lines: &[Line<'a>], name: &[u8]) -> Option<LocalAt<'a>> {
     for (index, line) in lines.iter().enumerate() {
         if let Some(kind) = kind_by_line(line, name) {
@@ -130,8 +132,8 @@ pub fn find_local_anywhere<'a>(lines: &[Line<'a>], name: &[u8]) -> Option<LocalA
     None
 }
 
-/// The index of the line that begins the class of what the name before a dot refers to, a pointer or `self`; `None` if there is no such
-/// class.
+/// The index of the line that begins the class of the object before a dot. The name before the dot is `self` or the name of a pointer. The
+/// result is `None` if there is no such class.
 pub fn class_of_holder(lines: &[Line], index: usize, base: &[u8]) -> Option<usize> {
     if base == b"self".as_slice() {
         return if has_self(lines, index) {
@@ -151,8 +153,8 @@ pub fn class_of_holder(lines: &[Line], index: usize, base: &[u8]) -> Option<usiz
     }
 }
 
-/// Returns the index of the line that declares the field with a name, in the class that begins at line index `class`; `None` if there is
-/// none.
+/// Returns the index of the line that declares the field with a name, in the class that begins at the line with index `class`. Returns
+/// `None` if there is no such field.
 pub fn find_field(lines: &[Line], class: usize, name: &[u8]) -> Option<usize> {
     for (index, line) in lines.iter().enumerate() {
         if index > class {
@@ -167,19 +169,19 @@ pub fn find_field(lines: &[Line], class: usize, name: &[u8]) -> Option<usize> {
     None
 }
 
-/// The index of the line that begins the first class, procedure or operation with a name; `None` if there is none.
+/// The index of the line that begins the first class, procedure or operation with a name; `None` if nothing has this name.
 pub fn line_of_item(lines: &[Line], name: &[u8]) -> Option<usize> {
     Some(find_item(lines, name)?.line)
 }
 
-/// The index of the line that declares the local with a name, in the body of the line at `index` and before that line; `None` if there is
-/// none.
+/// The index of the line that declares the local with a name, in the body of the line at `index` and before that line. The result is `None`
+/// if there is no such local.
 pub fn line_of_local(lines: &[Line], index: usize, name: &[u8]) -> Option<usize> {
     Some(find_local(lines, index, name)?.line)
 }
 
-/// The index of the line that declares the field with a name, in the last class that begins at or before the line at `index`; `None` if
-/// there is none.
+/// The index of the line that declares the field with a name, in the last class that begins at or before the line at `index`. The result is
+/// `None` if there is no such field.
 pub fn line_of_field(lines: &[Line], index: usize, name: &[u8]) -> Option<usize> {
     find_field(lines, class_before(lines, index)?, name)
 }

@@ -1,4 +1,4 @@
-//! A name that is declared nowhere: the space in which it was looked for, and the nearest name in that space.
+//! A name that is declared nowhere: the space in which the name was looked for, and the nearest name in this space.
 
 use crate::counterparts::{CODE_AS_NUMBER, EXTRA_BYTES, NUMBER_RETURNED};
 use crate::elsewhere::{Elsewhere, elsewhere_of_item, elsewhere_of_local, explain_elsewhere};
@@ -17,7 +17,7 @@ use wb_tree::script_lines::{ItemKind, LineKind, OperandPlace, ParameterType};
 /// The help for a name that can't be declared.
 const RESERVED: &str = "the name is reserved and can't be declared";
 
-/// Words that other languages, or declarations of locals, have for texts.
+/// Words for texts in other languages, or in declarations of locals.
 const TEXTS: [&[u8]; 5] = [b"text", b"string", b"des", b"buf", b"view"];
 
 /// Where a name was looked for.
@@ -30,7 +30,7 @@ enum Space {
     Fields(usize),
 }
 
-/// An unknown name: its bytes, the column where it begins, and where it was looked for.
+/// An unknown name: its bytes, the column in which the name begins, and the space in which it was looked for.
 #[derive(Clone, Copy)]
 struct Unknown<'a> {
     name: &'a [u8],
@@ -54,7 +54,7 @@ fn is_local(lines: &[Line], index: usize, name: &[u8]) -> bool {
     }
 }
 
-/// The name of a class, a procedure or an operation, if nothing in the script has it; `None` if something has.
+/// The unknown name of a class, a procedure or an operation; `None` if something in the script has this name.
 fn unknown_item<'a>(
     lines: &[Line],
     name: &'a [u8],
@@ -67,7 +67,8 @@ fn unknown_item<'a>(
     }
 }
 
-/// The name of a field, if its class doesn't declare it; `None` if the class does, or there is no class. The name before the dot is known.
+/// The unknown name of a field, which the field's class doesn't declare. The result is `None` if the class declares the name, or if there
+/// is no class. The name before the dot must be known.
 fn unknown_field<'a>(
     lines: &[Line],
     index: usize,
@@ -86,7 +87,7 @@ fn unknown_field<'a>(
     }
 }
 
-/// The unknown name in a word that a body uses, a name or a field; `None` if there is none.
+/// The unknown name in a word that a body uses. The word is a name or a field. The result is `None` if no name in the word is unknown.
 fn unknown_in_body<'a>(
     lines: &[Line],
     index: usize,
@@ -109,7 +110,8 @@ fn unknown_in_body<'a>(
     }
 }
 
-/// The name of the class of a parameter, if nothing in the script has it; `None` otherwise.
+/// The unknown name of a parameter's class. The result is `None` if something in the script has this name, or if the word isn't a parameter
+/// with a class.
 fn unknown_class<'a>(lines: &[Line], word: &'a [u8], column: usize) -> Option<Unknown<'a>> {
     if !is_parameter(word) {
         return None;
@@ -123,7 +125,7 @@ fn unknown_class<'a>(lines: &[Line], word: &'a [u8], column: usize) -> Option<Un
     unknown_item(lines, class, column, ItemKind::Class)
 }
 
-/// The unknown name in a word in this operand place; `None` if there is none.
+/// The unknown name in a word that is in this operand place; `None` if no name in the word is unknown.
 fn unknown_in_word<'a>(
     lines: &[Line],
     index: usize,
@@ -144,7 +146,7 @@ fn unknown_in_word<'a>(
     }
 }
 
-/// The first unknown name of a line, and the operand place that it is in; `None` if there is none.
+/// The first unknown name of a line, with the operand place of its word; `None` if the line has no unknown name.
 fn first_unknown<'a>(
     lines: &[Line<'a>],
     index: usize,
@@ -174,7 +176,7 @@ fn item_word(kind: ItemKind) -> &'static str {
     }
 }
 
-/// Says what is unknown, and where it was looked for.
+/// Says which name is unknown, and where the name was looked for.
 fn explain_problem(page: &mut Page, lines: &[Line], spot: Spot, space: Space) {
     let name = spot.shown_word();
     match space {
@@ -199,7 +201,7 @@ fn explain_problem(page: &mut Page, lines: &[Line], spot: Spot, space: Space) {
     }
 }
 
-/// The name of the class that a line begins.
+/// The name of the class that begins at the line with index `class`.
 pub fn class_name<'a>(lines: &[Line<'a>], class: usize) -> &'a [u8] {
     match lines.get(class) {
         Some(line) => line.text_at(1),
@@ -219,7 +221,7 @@ fn nearest_candidate<'a>(
     }
 }
 
-/// Shows the line that begins the space that was searched.
+/// Shows the line that begins the searched space.
 fn mark_space(page: &mut Page, lines: &[Line], index: usize, space: Space) {
     match space {
         Space::Items(_) => {}
@@ -252,7 +254,7 @@ fn help_of_local(name: &[u8]) -> &'static str {
     }
 }
 
-/// The help for `int` in place of the name of a class; `None` for any other name.
+/// The help for `int` where the name of a class is expected; `None` for any other name.
 fn help_of_number_kind(line: &Line, name: &[u8]) -> Option<&'static str> {
     if name != b"int".as_slice() {
         return None;
@@ -264,12 +266,12 @@ fn help_of_number_kind(line: &Line, name: &[u8]) -> Option<&'static str> {
     }
 }
 
-/// Whether a line returns an error code by its name.
+/// Whether a line is a `return` with the name of an error code.
 fn returns_code(line: &Line, name: &[u8]) -> bool {
     matches!(line.line_kind(), Some(LineKind::ReturnPointer)) && name.starts_with(b"KErr")
 }
 
-/// Says what to do if no name is near.
+/// Says how to declare an unknown name, for the case that no declared name is near.
 fn help_with_declaration(page: &mut Page, found: Unknown) {
     match found.space {
         Space::Locals => page.write_help_text(help_of_local(found.name)),
@@ -290,7 +292,7 @@ fn help_with_declaration(page: &mut Page, found: Unknown) {
     }
 }
 
-/// Says which declared name may be meant.
+/// Says which declared name may be meant instead of the unknown name.
 fn help_with_candidate(page: &mut Page, near: Candidate) {
     page.write_help(format_args!(
         "did you mean `{}`, declared on line {}?",

@@ -1,4 +1,4 @@
-//! What a word is by its bytes: a name, a field, a number, a text, a parameter.
+//! Decides from the bytes of a word what the word is, such as a numeral or a parameter.
 
 use wb_lines::words::{
     base_name, field_name, is_digit, literal_of, parameter_name, parameter_type_of_word,
@@ -21,7 +21,7 @@ pub fn digits<'a>(word: &'a [u8]) -> &'a [u8] {
     }
 }
 
-/// Whether a word is one or more digits, perhaps after a `-`.
+/// Whether a word consists of one or more digits, perhaps after a `-`.
 pub fn is_numeral(word: &[u8]) -> bool {
     let digits = digits(word);
     for byte in digits {

@@ -1,10 +1,10 @@
-//! What is wrong with a word that is not allowed where it is, by the bytes of the word alone, and what is expected in its place.
+//! What is wrong with a word that isn't allowed at its place, and what is expected there. This module looks only at the bytes of the word.
 
 use crate::words::{digits, has_byte, is_field, is_literal, is_numeral};
 use wb_lines::words::{after_first_of, before_first, is_digit, is_name, is_reserved};
 use wb_tree::script_lines::{Keyword, OperandPlace};
 
-/// What is wrong with a word, and a hint, which may be empty.
+/// A text that says what is wrong with a word, and a hint. The hint may be empty.
 pub type Complaint = (&'static str, &'static str);
 
 /// The words by which messages describe what is expected in an operand place.
@@ -83,7 +83,7 @@ fn quoted_complaint(word: &[u8]) -> Complaint {
     }
 }
 
-/// What is wrong with a word that has a colon, or is where a parameter is expected.
+/// What is wrong with a word that has a colon, or that is in the place of a parameter.
 fn parameter_complaint(operand_place: OperandPlace, word: &[u8]) -> Complaint {
     if matches!(operand_place, OperandPlace::ItsPointer) {
         (
@@ -109,7 +109,7 @@ fn ends_as_in_c(word: &[u8]) -> bool {
     matches!(word.last(), Some(b';' | b','))
 }
 
-/// The hint about a `;` or `,` at the end of a word, if there is one; otherwise the other hint.
+/// The hint about the `;` or `,` at the end of a word, if the word ends with such a sign; otherwise the hint `other`.
 pub fn hint_at_end(word: &[u8], other: &'static str) -> &'static str {
     if ends_as_in_c(word) {
         "words are separated by blanks, without `,` or `;`"
@@ -118,7 +118,7 @@ pub fn hint_at_end(word: &[u8], other: &'static str) -> &'static str {
     }
 }
 
-/// Whether a word names a field of a field.
+/// Whether a word names a field of a field, such as `a.b.c`.
 fn is_chain(word: &[u8]) -> bool {
     is_name(before_first(b'.', word)) && is_field(after_first_of(b'.', word))
 }
@@ -140,7 +140,7 @@ fn name_complaint(operand_place: OperandPlace, word: &[u8]) -> Complaint {
     }
 }
 
-/// What is wrong with a word that is no word of the language.
+/// What is wrong with a word that the language doesn't have.
 fn other_complaint(word: &[u8]) -> Complaint {
     match word {
         _ if is_chain(word) => {

@@ -1,3 +1,3 @@
-//! Given on from `wb_language`.
+//! Re-exported from `wb_language`.
 
 pub use wb_language::fault::ScriptFault;

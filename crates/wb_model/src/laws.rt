@@ -1,4 +1,4 @@
-//! Given on from `wb_runs`.
+//! Re-exported from `wb_runs`.
 
 pub use wb_runs::laws::{
     a_slot_stays_free, cells_stay_a_row, destructions_never_leave, free_runs_are, limits_refuse,

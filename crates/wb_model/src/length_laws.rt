@@ -1,3 +1,3 @@
-//! Given on from `wb_runs`.
+//! Re-exported from `wb_runs`.
 
 pub use wb_runs::length_laws::{ends_are_judged, heaps_agree, lengths_answer_once, tables_are_one};

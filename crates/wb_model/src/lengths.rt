@@ -1,3 +1,3 @@
-//! Given on from `wb_runs`.
+//! Re-exported from `wb_runs`.
 
 pub use wb_runs::lengths::{LengthRange, LengthTable};

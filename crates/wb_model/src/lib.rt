@@ -1,5 +1,5 @@
-//! Re-exports what things mean, the plain types, the definitions and the laws, under one name. Nothing is defined here, and no crate of the
-//! workbench rests on it: each names the rooms that it needs.
+//! Re-exports what things mean, the plain types, the definitions and the laws, under one name. This crate defines nothing, and no crate of
+//! the workbench depends on it: each crate names the crates that it needs.
 #![tactic(auto)]
 
 pub mod every_set_laws;

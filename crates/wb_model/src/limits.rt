@@ -1,4 +1,4 @@
-//! Given on from `wb_basics`.
+//! Re-exported from `wb_basics`.
 
 pub use wb_basics::limits::{
     CEILING, DEEPEST_BLOCK, DEFAULT_BUDGET, DEFAULT_MINIMUM, DEFAULT_STEP, LARGEST_BUDGET,

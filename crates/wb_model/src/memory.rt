@@ -1,3 +1,3 @@
-//! Given on from `wb_basics`.
+//! Re-exported from `wb_basics`.
 
 pub use wb_basics::memory::NoMemory;

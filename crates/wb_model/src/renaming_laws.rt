@@ -1,4 +1,4 @@
-//! Given on from `wb_runs`.
+//! Re-exported from `wb_runs`.
 
 pub use wb_runs::renaming_laws::{
     failures_lie_behind, forked_runs_are_renamed, held_numbers_were_made,

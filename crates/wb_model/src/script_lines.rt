@@ -1,4 +1,4 @@
-//! Given on from `wb_tree`.
+//! Re-exported from `wb_tree`.
 
 pub use wb_tree::script_lines::{
     BodyKind, Form, ItemKind, Keyword, LineKind, LocalKind, Operand, OperandKind, OperandPlace,

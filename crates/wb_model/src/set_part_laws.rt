@@ -1,4 +1,4 @@
-//! Given on from `wb_runs`.
+//! Re-exported from `wb_runs`.
 
 pub use wb_runs::set_part_laws::{
     a_part_of_sets_has_one_answer, a_whole_part_has_all_sets,

@@ -1,4 +1,4 @@
-//! The nesting of blocks: which lines of a script are allowed where they are, by their roles alone.
+//! The nesting of blocks: which lines of a script are allowed where they are, judged by their roles alone.
 #![tactic(auto)]
 
 pub mod nesting;

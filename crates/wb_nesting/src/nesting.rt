@@ -1,4 +1,4 @@
-//! Reads the lines of a script by their roles, with a stack of the open blocks, up to the first line that is not allowed where it is.
+//! Reads the lines of a script by their roles, with a stack of the open blocks, up to the first line that is not allowed at its position.
 
 ghost use Rattle.std.specs.Prelude.{◌≡◌, ◌∷◌, IfOk, OnOk, MatchOption, MatchBool, reverse};
 ghost use Rattle.wb_language.specs.Grammar.{IsGrammatical, IsFirstMisfit};
@@ -42,7 +42,7 @@ fn move_of(place: Option<Open>, role: Role) -> Option<Move>
     }
 }
 
-/// Pushes an open block, at this place, on those around it.
+/// Pushes an open block at this place onto the stack of open blocks.
 fn open(stack: &mut Vec<Open>, place: Open) -> Result<(), AllocError>
     ensures { OnOk result (reverse stack.new.items ≡ place ∷ reverse stack.old.items) }
 {
@@ -64,7 +64,7 @@ fn make(stack: &mut Vec<Open>, made: Move) -> Result<(), AllocError>
     }
 }
 
-/// Reads a line that isn't skipped; returns false if it is not allowed here. The last of the open blocks is the innermost.
+/// Reads a line that isn't skipped; returns `false` if the line is not allowed here. The last of the open blocks is the innermost.
 fn read_content(stack: &mut Vec<Open>, role: Role) -> Result<bool, AllocError>
     ensures fits { IfOk result (λ fits. MatchBool fits
         (step (reverse stack.old.items) role ≡ Some (reverse stack.new.items))
@@ -79,7 +79,7 @@ fn read_content(stack: &mut Vec<Open>, role: Role) -> Result<bool, AllocError>
     }
 }
 
-/// Reads a line, skipped or not; returns false if it is not allowed here.
+/// Reads a line, skipped or not; returns `false` if the line is not allowed here.
 fn read_line(stack: &mut Vec<Open>, role: Role) -> Result<bool, AllocError>
     ensures fits { IfOk result (λ fits. MatchBool fits
         (after_line (reverse stack.old.items) role ≡ Some (reverse stack.new.items))
@@ -91,11 +91,11 @@ fn read_line(stack: &mut Vec<Open>, role: Role) -> Result<bool, AllocError>
     }
 }
 
-/// The index of the first line that no script can have there, whatever follows it, or the number of lines if only an `end` is missing;
-/// `None` if the lines are grammatical as a whole script.
+/// The index of the first line that no script can have at this point, whatever lines follow. The result is the number of lines if only an
+/// `end` is missing, and `None` if the lines are grammatical as a whole script.
 ///
-/// Lines count from 0, skipped ones (`Role::Skip`) included, and these are allowed everywhere. An error means that memory for the stack of
-/// open blocks ran out; it says nothing about the lines.
+/// Lines count from 0. Skipped lines (`Role::Skip`) count too, and are allowed everywhere. An error means that memory for the stack of open
+/// blocks ran out; it says nothing about the lines.
 pub fn first_misfit(alloc: Global, roles: &[Role]) -> Result<Option<usize>, AllocError>
     ensures { IfOk result (λ found.
         MatchOption found (IsGrammatical roles.now) (IsFirstMisfit roles.now)) }

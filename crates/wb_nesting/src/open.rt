@@ -1,13 +1,13 @@
-//! Open blocks, and what a line does to the innermost one.
+//! Open blocks, and what a line does to the innermost open block.
 
-/// How far an open block has come, and so what may come next in it.
+/// How far an open block has come, which decides what may come next in it.
 #[derive(Clone, Copy)]
 pub enum Open {
     /// A class: fields, bodies or the end.
     Fields,
     /// A class after its `construct`: its `destroy` or the end.
     Made,
-    /// A class after its `destroy`: the end alone.
+    /// A class after its `destroy`: only the end.
     Destroyed,
     /// A body before its first statement: declarations, statements or the end.
     Declarations,
@@ -24,7 +24,7 @@ pub enum Open {
 pub enum Move {
     /// Ends the block.
     Close,
-    /// Leaves the block open, at this place. The first line of a class, a procedure or an operation opens it with this move.
+    /// Leaves the block open, at this place. The first line of a class, a procedure or an operation also makes this move, to open it.
     Stay(Open),
     /// Leaves the block open at the first place, and opens a block inside it at the second place.
     Enter(Open, Open),

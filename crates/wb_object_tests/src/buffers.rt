@@ -1,4 +1,4 @@
-//! `wb_text`: worked edits of a buffer, by what each edit returns and what the buffer reads as afterwards.
+//! Tests of `wb_text` with worked edits of a buffer: what each edit returns, and which units the buffer has afterwards.
 
 ghost use Rattle.std.specs.Prelude.{◌≤◌};
 
@@ -9,7 +9,7 @@ use std::test::Fail;
 use wb_heap_model::heap::Panic;
 use wb_text::{Buf, Units, append_bytes, append_units};
 
-/// What is done to a buffer.
+/// A change to a buffer.
 #[derive(Clone, Copy)]
 enum Change {
     Copy(&'static [u8]),
@@ -19,15 +19,15 @@ enum Change {
     SetLength(u32),
 }
 
-/// A buffer for a number of units, and the changes that are made to it one after another.
+/// A buffer for a number of units, and changes to it that are made one after another.
 #[derive(Clone, Copy)]
 struct WorkedBuffer {
     max: u8,
-    /// Each change with its panic, if it panics, and what the buffer reads as afterwards.
+    /// Each change with its panic, or `None` if it must not panic, and with the units that the buffer must have afterwards.
     changes: &'static [(Change, Option<Panic>, &'static [u8])],
 }
 
-/// Whether these are the units of a text.
+/// Whether a text has exactly these units.
 fn reads<U: Units>(text: &U, units: &[u8]) -> bool
     requires { U.can_read text.now }
 {
@@ -42,7 +42,7 @@ fn reads<U: Units>(text: &U, units: &[u8]) -> bool
     true
 }
 
-/// Makes a change whose source is this text.
+/// Makes a change to a buffer. `source` is the text that the change copies, appends or inserts.
 fn change_by<U: Units>(buf: &mut Buf, change: Change, source: &U) -> Result<(), Panic>
     requires { U.can_read source.now }
 {
@@ -63,7 +63,8 @@ fn units_of_change(change: Change) -> &'static [u8] {
     }
 }
 
-/// Whether each change returns and leaves what it must, both with a literal and with another buffer as its source.
+/// Whether each change returns the result in the table and leaves the units in the table. Each change is made twice: with a literal as its
+/// source, and with another buffer as its source.
 fn is_so(alloc: Global, worked: &WorkedBuffer) -> Result<bool, AllocError> {
     let mut by_literals = Buf::new(u32::from(worked.max));
     let mut by_buffers = Buf::new(u32::from(worked.max));

@@ -1,4 +1,5 @@
-//! `wb_hbuf`: edits that move the units of a text in a cell by odd and even numbers of positions, from odd and even positions on.
+//! Tests of `wb_hbuf`: edits that move the units of a text in a cell by odd and even numbers of positions, beginning at odd and even
+//! positions.
 
 use crate::texts::{Change, Taken, Target, WorkedTexts, first_other};
 use std::test::Fail;

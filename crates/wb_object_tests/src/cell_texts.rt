@@ -1,4 +1,4 @@
-//! `wb_hbuf`: worked edits of texts in cells and in a buffer, by what each edit returns and what the texts read as afterwards.
+//! Tests of `wb_hbuf` with worked edits of texts in cells and in a buffer: what each edit returns, and what the texts print afterwards.
 
 ghost use Rattle.std.specs.Prelude.{◌≤◌, IfOk};
 ghost use Rattle.wb_heap_model.specs.TextCells.{IsTextAt};
@@ -324,8 +324,8 @@ fn worked_texts(rt: HostRuntime) -> Result<(), Fail> {
     Ok(())
 }
 
-/// Makes an attempt to reallocate a text's cell for `n` units, and returns the pointer to the text: the old pointer if the attempt was
-/// denied.
+/// Makes an attempt to reallocate a text's cell for `n` units. Returns the pointer to the text, which is the old pointer if the attempt
+/// failed.
 fn remake_text(heap: &mut DebugHeap, ptr: Ptr, n: u32) -> Result<Ptr, NoMemory>
     requires text { IsTextAt ptr heap.old }
     requires most { n ≤ MOST_UNITS }
@@ -349,7 +349,7 @@ fn a_text_grows_with_its_cell(rt: HostRuntime) -> Result<(), Fail> {
     let mut ptr = grant_text(&mut heap, 4)?;
     assert_eq!(rt; (length(&heap, ptr), max_len(&heap, ptr)), (0, 6));
     assert!(rt; edit(&mut heap, ptr, Edit::Copy, Source::Literal(&letters, 0, 3)).is_ok());
-    // the first growth is denied
+    // the first growth fails
     for (units, most) in [(20, 6), (20, 22), (3, 6)] {
         ptr = remake_text(&mut heap, ptr, units)?;
         assert_eq!(rt; max_len(&heap, ptr), most);

@@ -1,5 +1,6 @@
-//! Nothing but tests: of lists and views, of texts in buffers and in cells, of objects and of the cleanup stack, by the public
-//! calls of the crates that hold them. They are here so that those crates are proved once, and not again with their tests.
+//! This crate has only tests: of lists and views, of texts in buffers and in cells, of objects, and of the cleanup stack. The tests use the
+//! public calls of other crates. The tests have a crate of their own so that those other crates are proved once, and not again with their
+//! tests.
 #![tactic(auto)]
 
 #[cfg(test)]

@@ -1,4 +1,4 @@
-//! The lists of `wb_basics`, each call once on its happy path; and the parts of a view.
+//! Tests of the lists of `wb_basics`, with each call once in a case where it succeeds; and tests of the parts of a view.
 
 use arrayvec::ArrayVec;
 use std::alloc::AllocError;
@@ -57,7 +57,8 @@ enum Part {
     Mid(u32, u32),
 }
 
-/// Parts of a view of 6 units from position 10 on: the position and the length of each, or `None` if the view has no such part.
+/// Parts of a view of 6 units from position 10 on. Each row has the position and the length of a part, or `None` if the view has no such
+/// part.
 static PARTS: [(Part, Option<(u32, u32)>); 8] = [
     (Part::Left(2), Some((10, 2))),
     (Part::Right(2), Some((14, 2))),
@@ -90,7 +91,7 @@ fn part_of(part: Part) -> Result<View, Panic> {
     }
 }
 
-/// The index of the first row whose part is another than the row says.
+/// The index of the first row whose part differs from the part in the table; `None` if there is no such row.
 fn first_other(parts: &[(Part, Option<(u32, u32)>)]) -> Option<usize> {
     for (index, (part, wanted)) in parts.iter().enumerate() {
         let wanted = match wanted {

@@ -1,11 +1,11 @@
-//! Literals that texts are edited with.
+//! Makes the literals with which the tests edit texts.
 
 ghost use Rattle.std.specs.Prelude.{◌≡◌, IfOk};
 
 use std::alloc::{AllocError, Global};
 use wb_basics::items::Chars;
 
-/// A literal of these bytes.
+/// Returns a literal with these bytes.
 pub(crate) fn literal(alloc: Global, bytes: &[u8]) -> Result<Chars, AllocError>
     ensures { IfOk result (λ chars. chars ≡ bytes.now) }
 {

@@ -1,4 +1,4 @@
-//! Calls on objects with the answers that they must give, so that worked objects are a table of calls.
+//! Calls on objects, each with the answer that it must give. So a table of calls describes worked objects.
 
 ghost use Rattle.std.specs.Prelude.{◌≡◌, ℕ, ◌+◌, ◌^◌, ◌<◌, ◌≤◌, length, true};
 ghost use Rattle.wb_tree.specs.Bodies.{payload_of_object};
@@ -16,46 +16,48 @@ use wb_heap_model::heap::{Gave, Kind, Panic, Ptr, Rule, Shape};
 use wb_objects::{class_of, field, make, set_field};
 use wb_tree::script::{Class, Script};
 
-/// A class: its extra bytes, and for each field the field's class, if it has one.
+/// A class: its extra bytes, and the class of each field, or `None` for a field without a class.
 pub(crate) type ClassRow = (u32, &'static [Option<u16>]);
 
-/// A call on objects. The answer that it must give is last. Null is the cell at place 0 with allocation number 0.
+/// A call on objects. The last field is the answer that the call must give. The cell `(0, 0)`, at place 0 with allocation number 0, means
+/// null.
 #[derive(Clone, Copy)]
 pub(crate) enum Call {
-    /// The cell that is granted to an object of a class.
+    /// A call to make an object: the class, and the cell that must be granted.
     Make(u16, Cell),
-    /// The attempt is denied.
+    /// A call to make an object that must fail.
     NoMake(u16),
     MakePastCeiling(u16),
     ClassOf(Cell, Result<u16, Panic>),
-    /// An object, the class that it is to be of, the index of a field, and the pointer in that field.
+    /// A call to read a field: an object, the class that the object must be of, the index of the field, and the pointer in the field.
     Field(Cell, u16, u8, Result<Cell, Panic>),
-    /// Like `Field`; the pointer that the field gets comes before the answer.
+    /// A call to set a field, with arguments as for `Field`. The pointer that the field gets comes before the answer.
     SetField(Cell, u16, u8, Cell, Result<(), Panic>),
-    /// A cell that is no object, for a number of bytes.
+    /// An attempt to get a raw cell: the bytes, and the cell that must be granted.
     Alloc(u32, Cell),
-    /// An HBufC for a number of units.
+    /// An attempt to get an HBufC: the units, and the cell that must be granted.
     Text(u32, Cell),
     Free(Cell),
     FailNext(u32),
-    /// The first words of a payload.
+    /// A cell, and the first words of its payload.
     Words(Cell, &'static [u32]),
-    /// The first index, and how many words a payload has from there on, all of them zero.
+    /// A cell, an index, and how many words the payload has from this index on. All these words must be zero.
     Zeros(Cell, u32, u32),
-    /// The length of a cell, header included, and the class of the object in it.
+    /// A cell, its length with the header, and the class of the object in the cell.
     Header(Cell, u32, u16),
     Attempts(u32),
 }
 
-/// Calls on objects, which are made in a heap that is empty at first.
+/// Calls that make and use objects, in a heap that is empty at first.
 #[derive(Clone, Copy)]
 pub(crate) struct WorkedObjects {
-    /// What the calls show.
+    /// What the calls show, in words.
     pub(crate) about: &'static str,
     pub(crate) calls: &'static [Call],
 }
 
-/// The index of the first call that gives another answer, if the script has these classes.
+/// The index of the first call that gives an answer other than the table's, with a script that has these classes; `None` if there is no
+/// such call.
 pub(crate) fn first_other(
     alloc: Global,
     classes: &[ClassRow],
@@ -76,7 +78,7 @@ fn first_other_in(heap: &mut DebugHeap, script: &Script, calls: &[Call]) -> Opti
     None
 }
 
-/// A script of these classes and nothing else.
+/// Returns a script that has these classes and nothing else.
 fn script_of(alloc: Global, rows: &[ClassRow]) -> Result<Script, NoMemory> {
     let mut classes = Items::new(alloc);
     for (extra, fields) in rows {
@@ -103,7 +105,7 @@ fn class(alloc: Global, extra: u32, fields: &[Option<u16>]) -> Result<Class, NoM
     })
 }
 
-/// Whether a call gives its answer.
+/// Whether a call gives the answer in the table.
 fn answers(heap: &mut DebugHeap, script: &Script, call: Call) -> bool {
     match call {
         Call::Make(class, cell) => {
@@ -126,7 +128,7 @@ fn answers(heap: &mut DebugHeap, script: &Script, call: Call) -> bool {
     }
 }
 
-/// Whether a call that changes nothing gives its answer.
+/// Whether a call that changes nothing gives the answer in the table.
 fn tells(heap: &DebugHeap, call: Call) -> bool {
     match call {
         Call::ClassOf(cell, answer) => class_of(heap, pointer(cell)) == answer,
@@ -145,7 +147,7 @@ fn tells(heap: &DebugHeap, call: Call) -> bool {
     }
 }
 
-/// An attempt to get an object, or `None` if it can't be made.
+/// Makes an attempt to get an object. Returns `None` if the attempt can't be made.
 fn make_object(heap: &mut DebugHeap, script: &Script, class: u16) -> Option<Gave> {
     if heap.attempts() == u32::MAX || !has_class(script, class) {
         return None;
@@ -153,7 +155,7 @@ fn make_object(heap: &mut DebugHeap, script: &Script, class: u16) -> Option<Gave
     make(heap, script, class).ok()
 }
 
-/// Whether the script has the class, and an object of it fits below the heap's ceiling.
+/// Whether the script has this class, and an object of the class fits below the heap's ceiling.
 fn has_class(script: &Script, class: u16) -> bool
     ensures there { result ≡ true → class < length script.now.classes }
     ensures fits { result ≡ true → payload_of_object (class_at script.now class) ≤ CEILING }
@@ -164,7 +166,7 @@ fn has_class(script: &Script, class: u16) -> bool
     }
 }
 
-/// Whether the cell that the pointer names, if there is one, has words for the field with this index.
+/// Whether the cell that the pointer names has words for the field with this index. The result is `true` if the pointer names no cell.
 fn has_room(heap: &DebugHeap, ptr: Ptr, i: u8) -> bool
     ensures { result ≡ true → (class : ℕ) → HasField heap.now ptr class i }
 {
@@ -174,7 +176,7 @@ fn has_room(heap: &DebugHeap, ptr: Ptr, i: u8) -> bool
     }
 }
 
-/// An attempt to get a raw cell, or `None` if it can't be made.
+/// Makes an attempt to get a raw cell. Returns `None` if the attempt can't be made.
 fn raw(heap: &mut DebugHeap, bytes: u32) -> Option<Gave> {
     if heap.attempts() == u32::MAX || bytes > CEILING {
         return None;
@@ -182,7 +184,7 @@ fn raw(heap: &mut DebugHeap, bytes: u32) -> Option<Gave> {
     heap.attempt_alloc(bytes, Kind::Raw).ok()
 }
 
-/// An attempt to get an HBufC, or `None` if it can't be made.
+/// Makes an attempt to get an HBufC. Returns `None` if the attempt can't be made.
 fn text(heap: &mut DebugHeap, units: u32) -> Option<Gave> {
     if heap.attempts() == u32::MAX || units > 16 {
         return None;
@@ -190,7 +192,7 @@ fn text(heap: &mut DebugHeap, units: u32) -> Option<Gave> {
     make_text(heap, units).ok()
 }
 
-/// Whether these are the first words of a payload.
+/// Whether a payload begins with these words.
 fn begins_with(heap: &DebugHeap, ptr: Ptr, words: &[u32]) -> bool {
     words
         .iter()
@@ -198,7 +200,7 @@ fn begins_with(heap: &DebugHeap, ptr: Ptr, words: &[u32]) -> bool {
         .all(|(word, i)| word_at(heap, ptr, i) == Some(*word))
 }
 
-/// Whether a payload has exactly `count` words from index `from` on, and all are zero.
+/// Whether a payload has exactly `count` words from index `from` on, and all these words are zero.
 fn ends_in_zeros(heap: &DebugHeap, ptr: Ptr, from: u32, count: u32) -> bool {
     let end = from.saturating_add(count);
     (from..end).all(|i| word_at(heap, ptr, i) == Some(0)) && word_at(heap, ptr, end).is_none()

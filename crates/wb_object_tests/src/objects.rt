@@ -1,11 +1,11 @@
-//! `wb_objects`: worked objects, by what the calls on them return and what the words of their cells are.
+//! Tests of `wb_objects` with worked objects: what the calls on objects return, and which words the objects' cells have.
 
 use crate::object_calls::{Call, ClassRow, WorkedObjects, first_other};
 use std::test::Fail;
 use wb_heap_model::heap::Panic;
 
-/// A class with one field, one with three fields and extra bytes, one with neither, and one so large that no object of it fits below the
-/// heap's ceiling after 160 bytes.
+/// Four classes: with one field, with three fields and extra bytes, with neither, and one that is very large. After 160 bytes, no object of
+/// the last class fits below the heap's ceiling.
 static CLASSES: [ClassRow; 4] = [
     (0, &[None]),
     (20, &[Some(0), None, Some(1)]),

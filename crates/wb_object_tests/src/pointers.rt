@@ -1,8 +1,8 @@
-//! Cells as the tables of calls name them.
+//! Cells as the tables of calls write them.
 
 use wb_heap_model::heap::Ptr;
 
-/// A cell, by its place and its allocation number.
+/// The place and the allocation number of a cell.
 pub(crate) type Cell = (u32, u32);
 
 /// The pointer to a cell.

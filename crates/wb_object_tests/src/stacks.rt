@@ -1,4 +1,4 @@
-//! `wb_cleanup`: worked cleanup stacks, by what each call returns, and what the words of the stack's cell are afterwards.
+//! Tests of `wb_cleanup` with worked cleanup stacks: what each call returns, and which words the stack's cell has afterwards.
 
 use crate::pointers::{Cell, pointer};
 use crate::rules::Refuses;
@@ -36,7 +36,7 @@ impl Model for Stacked {
     ghost invariant = { λ s. IsStacked s.stack s.heap s.full };
 }
 
-/// The index of the first step that gives another answer.
+/// The index of the first step that gives an answer other than the table's; `None` if there is no such step.
 fn first_other(alloc: Global, worked: &WorkedStack) -> Result<Option<usize>, DebugFault> {
     let Some(mut stacked) = start_stack(alloc, worked.rule)? else {
         return Err(DebugFault::NoMemory);
@@ -44,7 +44,7 @@ fn first_other(alloc: Global, worked: &WorkedStack) -> Result<Option<usize>, Deb
     Ok(stacked.first_other(worked.steps))
 }
 
-/// The stack that begins under a rule, or `None` if it doesn't get its cell.
+/// Starts a stack under this rule. Returns `None` if the heap refuses the stack's cell.
 fn start_stack(alloc: Global, rule: Refuses) -> Result<Option<Stacked>, DebugFault> {
     let mut heap = DebugHeap::new(alloc, rule.rule(), SHAPE)?;
     match Cleanup::start(&mut heap)? {
@@ -58,7 +58,7 @@ fn start_stack(alloc: Global, rule: Refuses) -> Result<Option<Stacked>, DebugFau
 }
 
 impl Stacked {
-    /// The index of the first step that gives another answer.
+    /// The index of the first step that gives an answer other than the table's; `None` if there is no such step.
     fn first_other(&mut self, steps: &[Step]) -> Option<usize> {
         for (index, step) in steps.iter().enumerate() {
             if !self.answers(*step) {
@@ -68,7 +68,7 @@ impl Stacked {
         None
     }
 
-    /// Whether a step gives its answer.
+    /// Whether a step gives the answer in the table.
     fn answers(&mut self, step: Step) -> bool {
         match step {
             Step::Push(entry, pushed) => self.push(item(entry)) == Some(pushed),
@@ -85,7 +85,7 @@ impl Stacked {
         }
     }
 
-    /// Whether a step that changes nothing gives its answer.
+    /// Whether a step that changes nothing gives the answer in the table.
     fn tells(&self, step: Step) -> bool {
         match step {
             Step::Used(n) => self.stack.used() == n,
@@ -102,7 +102,7 @@ impl Stacked {
         }
     }
 
-    /// The result of a push, or `None` if it can't be made.
+    /// Pushes an item, and returns the result. Returns `None` if the item can't be pushed.
     fn push(&mut self, item: Item) -> Option<Pushed> {
         if self.full || self.heap.attempts() == u32::MAX {
             return None;
@@ -149,7 +149,7 @@ impl Stacked {
         true
     }
 
-    /// Makes an attempt to get a raw cell of `bytes` bytes, and returns whether it is granted.
+    /// Makes an attempt to get a raw cell of `bytes` bytes, and returns whether the attempt is granted.
     fn alloc(&mut self, bytes: u32) -> bool {
         if self.heap.attempts() == u32::MAX || bytes > CEILING {
             return false;
@@ -190,7 +190,7 @@ fn item(entry: Entry) -> Item {
     }
 }
 
-/// The header of a stack's cell.
+/// The header of the cell of a cleanup stack.
 fn cleanup_header(cell: Cell, length: u32) -> Header {
     Header {
         place: cell.0,
@@ -209,7 +209,7 @@ fn worked_stacks(rt: HostRuntime) -> Result<(), Fail> {
     Ok(())
 }
 
-/// Rules, and whether a stack begins under each: its cell of 144 bytes is attempt 1.
+/// Rules, and whether a stack can begin under each rule. Attempt 1 asks for the stack's cell of 144 bytes.
 static FIRST_CELLS: &[(Refuses, bool)] = &[
     (Refuses::Past(0), false),
     (Refuses::Past(143), false),

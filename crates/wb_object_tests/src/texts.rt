@@ -1,4 +1,4 @@
-//! Edits of texts in two cells and a buffer, so that worked texts are a table of edits.
+//! Edits of texts in two cells and in a buffer. So a table of edits describes worked texts.
 
 ghost use Rattle.std.specs.Prelude.{◌≢◌, ◌≤◌, IfOk};
 ghost use Rattle.wb_hbuf.specs.Sources.{IsApart, IsSource, SuitsEdit};
@@ -31,11 +31,11 @@ pub(crate) enum Taken {
     Letters(u16, u16),
     /// A part of the text itself.
     Own(u16, u16),
-    /// A part of the text in the other cell; for the text in the buffer, of the text in the first cell.
+    /// A part of the text in the other cell. If the edited text is in the buffer, a part of the text in the first cell.
     Other(u16, u16),
 }
 
-/// What is done to a text.
+/// A change to a text.
 #[derive(Clone, Copy)]
 pub(crate) enum Change {
     Edit(Edit, Taken),
@@ -43,18 +43,19 @@ pub(crate) enum Change {
     SetLength(u16),
 }
 
-/// Two texts in cells, each for a number of units, a text in a buffer for 8 units, and the changes that are made to them one after another.
+/// Two texts in cells, each for a number of units, a text in a buffer for 8 units, and changes to these texts that are made one after
+/// another.
 #[derive(Clone, Copy)]
 pub(crate) struct WorkedTexts {
-    /// What the changes show.
+    /// What the changes show, in words.
     pub(crate) about: &'static str,
     pub(crate) first: u8,
     pub(crate) second: u8,
-    /// Each change with the text that it changes, its panic if it panics, and what that text prints afterwards.
+    /// Each change: the text that it changes, the change, its panic or `None` if it must not panic, and what the text prints afterwards.
     pub(crate) changes: &'static [(Target, Change, Option<Panic>, &'static [u8])],
 }
 
-/// The index of the first change that gives another answer, or leaves another text.
+/// The index of the first change whose result, or whose text afterwards, differs from the table; `None` if there is no such change.
 pub(crate) fn first_other(alloc: Global, worked: &WorkedTexts) -> Result<Option<usize>, NoMemory> {
     let shape = Shape::new(0, 4096);
     let Ok(mut heap) = DebugHeap::new(alloc, Rule::Unlimited, shape) else {
@@ -126,7 +127,7 @@ pub(crate) fn printed_line(heap: &DebugHeap, ptr: Ptr) -> Line
     print_units(heap, Source::Cell(ptr, 0, length(heap, ptr)))
 }
 
-/// Changes the text in the buffer, which may take from the text in the cell that `ptr` names.
+/// Changes the text in the buffer. The change may take units from the text in the cell that `ptr` names.
 fn change_buffer(
     heap: &DebugHeap,
     buffer: &mut Buf,
@@ -158,7 +159,7 @@ fn change_buffer(
     }
 }
 
-/// Changes the text in a cell. The text in the other cell stays as it is.
+/// Changes the text in a cell. The text in the other cell stays unchanged.
 fn change_cell(
     heap: &mut DebugHeap,
     ptr: Ptr,
@@ -239,7 +240,7 @@ fn set_length_beside(heap: &mut DebugHeap, ptr: Ptr, other: Ptr, n: u32) -> Resu
     set_length(heap, ptr, n)
 }
 
-/// An empty text that may have `n` units.
+/// Makes an empty text that may have `n` units.
 pub(crate) fn grant_text(heap: &mut DebugHeap, n: u32) -> Result<Ptr, NoMemory>
     requires { n ≤ MOST_UNITS }
     ensures text { IfOk result (λ ptr. IsTextAt ptr heap.new) }
@@ -254,7 +255,7 @@ pub(crate) fn grant_text(heap: &mut DebugHeap, n: u32) -> Result<Ptr, NoMemory>
     }
 }
 
-/// An empty text in a new cell. The text in the cell that `other` names stays as it is.
+/// Makes an empty text in a new cell. The text in the cell that `other` names stays unchanged.
 fn grant_text_beside(heap: &mut DebugHeap, other: Ptr, n: u32) -> Result<Ptr, NoMemory>
     requires sound { IsSoundDebug heap.old }
     requires other { IsTextAt other heap.old }

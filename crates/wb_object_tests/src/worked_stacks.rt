@@ -1,11 +1,11 @@
-//! The table of worked cleanup stacks: which calls are made, and what each must return. `stacks` makes the calls.
+//! The table of worked cleanup stacks: which calls are made, and what each call must return. The module `stacks` makes the calls.
 
 use crate::pointers::Cell;
 use crate::rules::Refuses;
 use wb_cleanup::Pushed;
 use wb_heap_model::heap::Panic;
 
-/// An item of a cleanup stack, by its cell.
+/// An item of a cleanup stack, with the cell that the item is about.
 #[derive(Clone, Copy)]
 pub(crate) enum Entry {
     Free(Cell),
@@ -13,39 +13,39 @@ pub(crate) enum Entry {
     Call(Cell, u16),
 }
 
-/// A call on a stack or on its heap. The answer that it must give is last.
+/// A call on a stack or on its heap. The last field is the answer that the call must give.
 #[derive(Clone, Copy)]
 pub(crate) enum Step {
     Push(Entry, Pushed),
-    /// Pushes this many items, numbered from 0, and each push must be fine.
+    /// Pushes this many items, numbered from 0. Each push must return `Fine`.
     PushMany(u32),
-    /// The floor, how many items are popped above it, and the panic, if the call panics.
+    /// The floor, how many items are popped above the floor, and the panic; `None` if the call must not panic.
     Pop(u32, u32, Option<Panic>),
-    /// Like `Pop`, for one item, which is expected to be about this cell.
+    /// A call like `Pop`, for one item. The item is expected to be about this cell.
     PopExpected(u32, Cell, Option<Panic>),
-    /// The floor, and the item that is taken off above it, if there is one.
+    /// The floor, and the item that is taken off above the floor; `None` if there is no such item.
     Take(u32, Option<Entry>),
-    /// Takes off this many items that `PushMany` pushed, down to the first one.
+    /// Takes off this many items that `PushMany` pushed, down to the first item.
     TakeMany(u32),
     Used(u32),
-    /// Whether exactly one slot is free, and whether none is.
+    /// Whether exactly one slot is free (`one`), and whether no slot is free (`none`).
     Free { one: bool, none: bool },
-    /// How many bytes a raw cell has that must be granted in the heap.
+    /// How many bytes a raw cell is for that the heap must grant.
     Alloc(u32),
     FailNext(u32),
     Attempts(u32),
-    /// The stack's cell, and its length in bytes, with the header.
+    /// The stack's cell, and the cell's length in bytes, with the header.
     Stands(Cell, u32),
-    /// The pointer names no cell.
+    /// A pointer that must name no live cell.
     Gone(Cell),
-    /// A cell, the index of one of its slots, and the words of that slot.
+    /// A cell, the index of a slot of the cell, and the words of this slot.
     Slot(Cell, u32, [u32; 4]),
 }
 
-/// A stack that begins in a heap under a rule, and the calls that are made then.
+/// A stack that begins in a heap with a rule, and the calls that are made afterwards.
 #[derive(Clone, Copy)]
 pub(crate) struct WorkedStack {
-    /// What the calls show.
+    /// What the calls show, in words.
     pub about: &'static str,
     pub rule: Refuses,
     pub steps: &'static [Step],

@@ -1,7 +1,7 @@
-//! Objects: cells of the debug heap with a class and a pointer for each field of the class.
+//! Objects: cells of the debug heap. Each object has a class, and a pointer for each field of the class.
 //!
-//! The first word of a cell's payload is the index of the class, and the second is 0. After them, each field has two words: the place and
-//! the number of its pointer. The calls are in `objects`.
+//! The first word of an object's payload is the index of the class, and the second word is 0. After these two words, each field has two
+//! words: the place and the number of the field's pointer. The calls are in `objects`.
 #![tactic(auto)]
 
 pub mod objects;

@@ -1,5 +1,5 @@
-//! The calls on objects. The header of an object's cell says of which class the object is; the first word of the payload says the same, for
-//! code that reads only the words.
+//! The calls on objects. The header of an object's cell says which class the object has. The first word of the payload repeats this class,
+//! for code that reads only the words.
 
 ghost use Rattle.std.specs.Prelude.{◌≡◌, ℕ, ◌+◌, ◌*◌, ◌^◌, ◌<◌, ◌≤◌, length, None, Some, IfOk, IsOk, OnErr, OnOk};
 ghost use Rattle.std.specs.Prelude.{slice_get, slice_set};
@@ -20,21 +20,21 @@ use wb_debug::DebugHeap;
 use wb_heap_model::heap::{Gave, Kind, Panic, Ptr};
 use wb_tree::script::{Class, Script};
 
-/// The index of the word in which an object has the index of its class.
+/// The index of the payload word that holds the index of the object's class.
 const CLASS_WORD: u32 = 0;
-/// Where the fields begin, in words: after the class and a zero.
+/// The index of the payload word at which the fields begin: after the class and a zero.
 const FIRST_FIELD: u32 = 2;
-/// How many words a field has: the place and the number of its pointer.
+/// How many words a field has: one for the place of its pointer, and one for the number of its pointer.
 const FIELD_WORDS: u32 = 2;
 /// The length of a word, in bytes.
 const WORD_BYTES: u32 = 4;
 
-/// Attempts to get a cell for an object of the class with this index, with all its fields null.
+/// Makes an attempt to get a cell for an object of the class with this index. All fields of the object are null.
 ///
-/// The request is for 8 bytes, 8 more for each field of the class, and the class's extra bytes, which are zero. `Denied` and `Ceiling` are
-/// the heap's answers. `NoMemory` if the workbench itself runs out of memory; it leaves the heap as it was, and never comes in place of
-/// `Ceiling`. Source: Symbian OS v9 SDK reference, CBase, for members that are zero when allocated, and this project's profile for the
-/// length of the cell.
+/// The request is for 8 bytes, 8 more bytes for each field of the class, and the class's extra bytes. The extra bytes of a new object are
+/// zero. Returns `Denied` and `Ceiling` in the same cases as the heap's `attempt_alloc`. Returns `NoMemory` if the workbench itself runs
+/// out of memory; the heap is then as it was. `NoMemory` never comes in place of `Ceiling`. Source: Symbian OS v9 SDK reference, CBase, for
+/// members that are zero when allocated; this project's profile for the length of the cell.
 pub fn make(heap: &mut DebugHeap, script: &Script, class: u16) -> Result<Gave, NoMemory>
     requires class { class < length script.now.classes }
     requires bytes { payload_of_object (class_at script.now class) ≤ CEILING }
@@ -58,7 +58,7 @@ pub fn make(heap: &mut DebugHeap, script: &Script, class: u16) -> Result<Gave, N
     Ok(gave)
 }
 
-/// How many bytes are requested for an object of a class.
+/// How many bytes `make` requests for an object of a class.
 fn bytes_of(class: &Class) -> u32
     requires { payload_of_object class.now ≤ CEILING }
     ensures { result ≡ payload_of_object class.now }
@@ -67,9 +67,10 @@ fn bytes_of(class: &Class) -> u32
     WORD_BYTES * (FIRST_FIELD + fields) + class.extra
 }
 
-/// Returns the index of the class of the object that a pointer names: the object's own class, whatever class the pointer is declared with.
+/// Returns the index of the class of the object that a pointer names. This is the object's own class, whatever class the pointer is
+/// declared with.
 ///
-/// `Panic::NULL_OR_STALE` if the pointer names no live cell, then `Panic::WRONG_KIND` if the cell is no object.
+/// Returns `Panic::NULL_OR_STALE` if the pointer names no live cell; otherwise `Panic::WRONG_KIND` if the cell is no object.
 pub fn class_of(heap: &DebugHeap, ptr: Ptr) -> Result<u16, Panic>
     ensures { result ≡ class_found heap.now ptr }
 {
@@ -84,7 +85,8 @@ pub fn class_of(heap: &DebugHeap, ptr: Ptr) -> Result<u16, Panic>
 
 /// Returns the pointer in field `i` of an object of this class; the class's first field has index 0.
 ///
-/// `Panic::NULL_OR_STALE` if `ptr` names no live cell, then `Panic::WRONG_KIND` if the cell is no object, or an object of another class.
+/// Returns `Panic::NULL_OR_STALE` if `ptr` names no live cell; otherwise `Panic::WRONG_KIND` if the cell is no object, or is an object of
+/// another class.
 pub fn field(heap: &DebugHeap, ptr: Ptr, class: u16, i: u8) -> Result<Ptr, Panic>
     requires { HasField heap.now ptr class i }
     ensures answer { result ≡ field_of i (words_found heap.now ptr class) }
@@ -99,9 +101,9 @@ pub fn field(heap: &DebugHeap, ptr: Ptr, class: u16, i: u8) -> Result<Ptr, Panic
     })
 }
 
-/// Puts the pointer `to` into field `i` of an object of this class; the class's first field has index 0. Nothing else changes.
+/// Sets field `i` of an object of this class to the pointer `to`; the class's first field has index 0. Nothing else changes.
 ///
-/// The errors are those of `field`; the heap is then as it was.
+/// Returns the same errors as `field`; after an error the heap is as it was.
 pub fn set_field(heap: &mut DebugHeap, ptr: Ptr, class: u16, i: u8, to: Ptr) -> Result<(), Panic>
     requires { HasField heap.old ptr class i }
     ensures answer { result ≡ answer_of (words_found heap.old ptr class) }
@@ -120,7 +122,7 @@ pub fn set_field(heap: &mut DebugHeap, ptr: Ptr, class: u16, i: u8, to: Ptr) -> 
     Ok(())
 }
 
-/// Checks that a pointer names an object of this class. The errors are those of `field`.
+/// Checks that a pointer names an object of this class. Returns the same errors as `field`.
 fn expect_class(heap: &DebugHeap, ptr: Ptr, class: u16) -> Result<(), Panic>
     ensures answer { result ≡ answer_of (words_found heap.now ptr class) }
     ensures sound { IsSoundDebug heap.now }
@@ -132,7 +134,7 @@ fn expect_class(heap: &DebugHeap, ptr: Ptr, class: u16) -> Result<(), Panic>
     }
 }
 
-/// The index of a field's first word among the words of an object.
+/// The index of a field's first word in an object's payload.
 fn word_of_field(i: u8) -> u32
     ensures { result ≡ 2 + 2 * i }
 {

@@ -1,6 +1,7 @@
-//! Pages of explanations: messages about lines of a script, which are shown with carets under what is meant.
+//! Pages of explanations: messages about lines of a script, each shown with carets under the part of the line that the message is about.
 //!
-//! Plain functions from values to text. No report rests on them, and what the messages say is written in the crates that use this one.
+//! The functions turn values into text and have no other effect. No report depends on them. The crates that use this crate write what the
+//! messages say.
 #![tactic(auto)]
 
 pub mod page;

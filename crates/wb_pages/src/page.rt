@@ -1,5 +1,5 @@
-//! The text of an explanation as it is written, line by line. What the messages say isn't written here: they come as formats,
-//! `format_args!(..)`, or as plain texts.
+//! The text of an explanation as it is written, line by line. Callers write the messages' words, and pass them as formats
+//! (`format_args!(..)`) or as plain texts.
 
 ghost use Rattle.std.specs.Prelude.{◌≡◌, ◌++◌, [], ◌∷◌, codes, false, true, string_bytes, IfOk, IsErr};
 ghost use Rattle.std.specs.Char.{encode_utf8};
@@ -11,13 +11,14 @@ use crate::spots::{Span, Spot};
 use std::alloc::{AllocError, Global};
 use std::fmt::{Display, Write};
 
-/// How many columns are shown before the part that is meant, if the line is too long to be shown whole.
+/// How many columns are shown before the part with carets, if the line is too long to be shown whole.
 const COLUMNS_BEFORE: usize = 40;
 
-/// What comes before a line that is shown.
+/// The blanks before a line of the script that a message shows.
 const INDENT: &str = "    ";
 
-/// What is written so far of an explanation of a file. If memory runs out the rest is left out, and `is_cut` says so.
+/// The part of a file's explanation that is written so far. If memory runs out, the rest of the explanation is left out and `is_cut` is
+/// true.
 #[derive(Drop)]
 pub struct Page<'f> {
     file: &'f str,
@@ -39,7 +40,7 @@ impl<'f> Page<'f> {
         }
     }
 
-    /// Returns what was written. The only error is that memory ran out.
+    /// Returns the text that was written. The only error is that memory ran out.
     pub fn whole_text(self) -> Result<String, AllocError>
         ensures whole { IfOk result (λ text. text ≡ self.entry.text) }
         ensures cut { self.entry.is_cut ≡ true → IsErr result }
@@ -51,7 +52,7 @@ impl<'f> Page<'f> {
         }
     }
 
-    /// Returns what was written, and its parts. The only error is that memory ran out.
+    /// Returns the text that was written, and its parts. The only error is that memory ran out.
     pub fn whole_parts(self) -> Result<(String, Vec<Part>), AllocError> {
         if self.is_cut {
             return Err(AllocError);
@@ -64,7 +65,8 @@ impl<'f> Page<'f> {
         self.parts.len()
     }
 
-    /// Returns the number of the line that a part is about, by its index; 0 if it is about none, and `None` if there is no such part.
+    /// Returns the number of the script's line that the part with this index is about; 0 if the part is about no line. Returns `None` if
+    /// there is no such part.
     pub fn line_of_part(&self, index: usize) -> Option<usize> {
         match self.parts.get(index) {
             Some(part) => Some(part.line),
@@ -72,7 +74,8 @@ impl<'f> Page<'f> {
         }
     }
 
-    /// Begins a part, whose words come next; `line` is the number of the line that it is about, or 0.
+    /// Begins a part; the caller writes its words next. `line` is the number of the script's line that the part is about, or 0 if the part
+    /// is about no line.
     fn begin_part(&mut self, kind: PartKind, line: usize)
         ensures before { self.new.is_cut ≡ false → self.old.is_cut ≡ false }
         ensures text { self.new.is_cut ≡ false → string_bytes self.new.text
@@ -133,8 +136,8 @@ impl<'f> Page<'f> {
         }
     }
 
-    /// Writes a line of the script from a column on, at most as many columns as are shown. If the beginning of the line is left out, an
-    /// ellipsis replaces the first columns, and all other columns stay where they were.
+    /// Writes a line of the script from column `from` on, at most `MOST_COLUMNS` columns of it; an ellipsis stands for what is cut off at the
+    /// end. If `from` isn't 0, an ellipsis replaces the first columns that would be shown, so that all other columns stay in place.
     fn add_line(&mut self, line: &[u8], from: usize) {
         let (_, rest) = line.split_at_checked(from).unwrap_or((line, line));
         let (part, after) = rest.split_at_checked(MOST_COLUMNS).unwrap_or((rest, &[]));
@@ -189,7 +192,7 @@ impl<'f> Page<'f> {
         self.begin_part(PartKind::OfFile, 0);
     }
 
-    /// Begins a message about a line of the file, by its number.
+    /// Begins a message about the line of the file with this number.
     pub fn begin_message(&mut self, number: usize)
         ensures before { self.new.is_cut ≡ false → self.old.is_cut ≡ false }
         ensures text { self.new.is_cut ≡ false → string_bytes self.new.text
@@ -246,7 +249,7 @@ impl<'f> Page<'f> {
         self.end_line();
     }
 
-    /// Writes a message about a line of the file, by its number, and doesn't show the line.
+    /// Writes a message about the line of the file with this number, without showing the line.
     pub fn write_message(&mut self, number: usize, text: &str)
         ensures before { self.new.is_cut ≡ false → self.old.is_cut ≡ false }
         ensures text { self.new.is_cut ≡ false → string_bytes self.new.text
@@ -259,7 +262,7 @@ impl<'f> Page<'f> {
         self.end_line();
     }
 
-    /// Writes a message about a part of the script, and shows its line with carets under that part.
+    /// Writes a message about a part of the script, and shows that part's line, with carets under the part.
     pub fn mark<D: Display + Drop>(&mut self, spot: Spot, message: D) {
         self.begin_message(spot.number);
         self.write(message);
@@ -267,8 +270,8 @@ impl<'f> Page<'f> {
         self.show(spot);
     }
 
-    /// Shows a line of the script, with carets under a part of it: below a message that `begin_message` began and `end_line`
-    /// ended.
+    /// Shows a line of the script, with carets under a part of it. A message must come before: `begin_message` began it and `end_line`
+    /// ended it.
     pub fn show(&mut self, spot: Spot) {
         let from = if spot.text.len() <= MOST_COLUMNS {
             0
@@ -284,7 +287,7 @@ impl<'f> Page<'f> {
         }
     }
 
-    /// Writes the line of carets under a part of a line that is shown from a column on.
+    /// Writes a line of carets under a part of the script's line above. The line above is shown from the column `from` on.
     fn add_carets(&mut self, span: Span, from: usize) {
         let column = span.column.saturating_sub(from);
         self.add_text(INDENT);

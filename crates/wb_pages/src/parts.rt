@@ -1,8 +1,9 @@
-//! The parts of a page: its messages, and the rows, notes and helps below them, for what is made of a page beside its text.
+//! The parts of a page: its messages, and the rows, notes and helps below them. Outputs other than the page's text, such as a SARIF log,
+//! are made from these parts.
 
 use crate::spots::Span;
 
-/// What a part of a page is.
+/// The kind of a part of a page.
 #[derive(Clone, Copy, Debug, PartialEq, Eq)]
 pub enum PartKind {
     /// A message about a line of the file.
@@ -11,26 +12,27 @@ pub enum PartKind {
     OfFile,
     /// A row of a table, below a message.
     Row,
-    /// What else there is to know.
+    /// A line that says what else there is to know.
     Note,
-    /// What to do.
+    /// A line that says what to do.
     Help,
 }
 
-/// A part of a page: what it is, and where its words begin in the page's text.
+/// A part of a page: its kind, and the place in the page's text at which the part's words begin.
 #[derive(Clone, Copy)]
 pub struct Part {
     pub kind: PartKind,
-    /// The number of the line that a message is about; 0 if it is about none.
+    /// The number of the script's line that a message is about; 0 if the part is about no line.
     pub line: usize,
-    /// The part of that line, without the blanks around the line, that is shown with carets; `None` if it isn't shown.
+    /// The piece of the script's line that is shown with carets, in columns of the line without the blanks around it; `None` if no line is
+    /// shown.
     pub span: Option<Span>,
-    /// The index in the page's text of the first byte of the part's own words.
+    /// The index of the first byte of the part's own words in the page's text.
     pub from: usize,
 }
 
 impl Part {
-    /// Returns the part's words, without the names before them, from the page's text: all up to the end of their line.
+    /// Returns the part's own words from the page's text: from the index `from` up to the end of that line of text.
     pub fn words<'a>(&self, text: &'a str) -> &'a str {
         match text.split_at_checked(self.from) {
             Some((_, rest)) => rest.lines().next().unwrap_or(""),

@@ -6,10 +6,10 @@ use std::fmt::{Display, Formatter, Write};
 /// The most columns of a script's line that are shown.
 pub const MOST_COLUMNS: usize = 100;
 
-/// The most bytes of a word that are written in a message.
+/// The most bytes of a word of the script that a message shows.
 const LONGEST_WORD: usize = 70;
 
-/// What is written instead of what is left out.
+/// The characters that replace a part of a text that is left out.
 pub const ELLIPSIS: &str = "...";
 
 /// A word or a line of the script, cut if it is too long to be shown whole.
@@ -70,7 +70,7 @@ fn is_visible(byte: u8) -> bool {
     matches!(byte, b' '..=b'~')
 }
 
-/// The character that is shown for a byte: a blank for each kind of blank, a question mark for what can't be shown.
+/// The character that is shown for a byte: a blank for each kind of blank, a question mark for a byte that can't be shown.
 fn visible_char(byte: u8) -> char {
     match byte {
         b' '..=b'~' => byte as char,

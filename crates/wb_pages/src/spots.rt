@@ -1,4 +1,4 @@
-//! Parts of a script's lines that a message is about.
+//! The parts of a script's lines that messages are about.
 
 ghost use Rattle.std.specs.Prelude.{◌≡◌, length, slice_get, MatchOption};
 
@@ -13,7 +13,7 @@ pub struct Span {
 }
 
 /// A part of a line of the script: the line's number, counted from 1, the line's text without the blanks around it, the part, and the word
-/// that is written there; the word is empty if the part is the whole line.
+/// at the part. If the part is the whole line, the word is empty.
 #[derive(Clone, Copy)]
 pub struct Spot<'a> {
     pub number: usize,
@@ -47,7 +47,7 @@ impl<'a> Spot<'a> {
         }
     }
 
-    /// Returns the word with this index, counted from 0, among the line's words; the whole line if there is no such word.
+    /// Returns the part that the line's word with this index takes up, counted from 0; the whole line if there is no such word.
     pub fn of_word(number: usize, text: &'a [u8], words: &[Word<'a>], index: usize) -> Spot<'a>
         ensures number { result.number ≡ number }
         ensures text { result.text.now ≡ text.now }

@@ -1,4 +1,4 @@
-//! The words of a line with the columns in which they begin. `wb_lines` says which bytes are words.
+//! The words of a line with the columns in which they begin. The crate `wb_lines` decides which bytes of a line are words.
 
 ghost use Rattle.std.specs.Prelude.{◌≡◌, length};
 
@@ -26,7 +26,7 @@ impl<'a> Word<'a> {
     }
 }
 
-/// The bytes from one index up to another; empty if there is no such part.
+/// The bytes from the index `from` up to the index `to`; empty if `bytes` has no such part.
 fn part<'a>(bytes: &'a [u8], from: usize, to: usize) -> &'a [u8] {
     if from <= to && to <= bytes.len() {
         &bytes[from..to]
@@ -56,8 +56,8 @@ pub fn trim<'a>(line: &'a [u8]) -> &'a [u8] {
     part(line, count_blanks(line), end)
 }
 
-/// Returns the words of a line, which are given as texts, with their columns. Only blanks may be between two words. The only error is that
-/// memory ran out.
+/// Returns the words of a line, which are given as texts, with their columns. Nothing but blanks may be between two successive words. The
+/// only error is that memory ran out.
 pub fn place_words<'a>(
     alloc: Global,
     line: &'a [u8],

@@ -1,5 +1,5 @@
-//! The frame of a panel with its axes: places on the left and steps below it, both at round numbers. A gap shows where places are drawn
-//! shorter.
+//! The frame of a panel with its axes: places on the left and steps below, both labelled at round numbers. A gap in the frame marks places
+//! that are drawn shorter.
 
 use crate::drawing::{Drawing, Drawn};
 use crate::labels::{put_number, put_rect, put_text};
@@ -15,13 +15,13 @@ const MOST_PLACES: u32 = 8;
 /// The most intervals between labels on the axis of steps.
 const MOST_STEPS: u32 = 16;
 
-/// The most labels of an axis, those after folds among them.
+/// The most labels of an axis, counting the labels after folds.
 const MOST_LABELS: u32 = 40;
 
-/// From how many drawn bytes on places are written in KiB.
+/// A frame that draws at least this many bytes has its places written in KiB.
 const FROM_KIB: u32 = 4096;
 
-/// The height of the gap that shows where places are drawn shorter, in pixels.
+/// The height, in pixels, of the gap that marks places that are drawn shorter.
 const GAP: u32 = 5;
 
 /// The unit in which places are written.
@@ -93,7 +93,7 @@ fn put_places(drawing: &mut Drawing<'_>) -> Drawn {
     Ok(())
 }
 
-/// The place of the next label. If it would be inside a fold, it comes after the fold.
+/// The place of the next label. If the next round place is inside a fold, the label comes after the fold.
 fn place_after(scale: &Scale, place: u32, step: u32) -> u32 {
     let next = place.saturating_add(step);
     let shown = scale.places.end_of_fold(next);
@@ -138,7 +138,7 @@ fn put_steps(drawing: &mut Drawing<'_>) -> Drawn {
     Ok(())
 }
 
-/// Draws a gap through the frame where places are drawn shorter.
+/// Draws a gap through the frame at each stretch of places that is drawn shorter.
 pub fn put_gaps(drawing: &mut Drawing<'_>) -> Drawn {
     let scale = drawing.scale;
     if !scale.places.is_folded() {
@@ -158,7 +158,7 @@ fn middle_of(scale: &Scale, fold: &Fold) -> u32 {
     high.saturating_add(low.saturating_sub(high) / 2)
 }
 
-/// The base line of a text that is to be at `y`: above a fold's gap, if the text would be in it.
+/// The base line of a text that is to be at `y`. If the gap of a fold would cross the text, the base line is above this gap.
 pub fn base_line(scale: &Scale, y: u32) -> u32 {
     if !scale.places.is_folded() {
         return y;

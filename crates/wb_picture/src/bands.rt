@@ -1,5 +1,6 @@
 //! Numbers over time in a panel: the marks, the TRAPs and the cleanup stack as bands below the frame, and the committed length as a line in
-//! the frame. A column shows the greatest value that a number has in it. A band has the same scale in each panel of a picture.
+//! the frame. Each column shows the greatest value that the number has in that column's steps. A band has the same scale in each panel of a
+//! picture.
 
 use crate::drawing::{Drawing, Drawn};
 use crate::labels::{
@@ -13,7 +14,7 @@ use wb_history::Series;
 /// The height of a band, in pixels.
 pub const BAND: u32 = 14;
 
-/// The least height of a value's bar with the value written inside, in pixels.
+/// The least height of a bar that has its value written inside, in pixels.
 const LEAST_WITH_TEXT: u32 = 11;
 
 /// Successive columns in which a number has the same greatest value.
@@ -24,8 +25,8 @@ struct Stretch {
     value: u32,
 }
 
-/// Draws a band whose top is at `top`, with its name on the left, and on the right the greatest value that it has in the runs of the
-/// picture.
+/// Draws a band whose top is at `top`, with the band's name to the left of the band. The text to the right of the band says `greatest`, the
+/// greatest value in all runs of the picture.
 pub fn put_band(
     drawing: &mut Drawing<'_>,
     name: &str,
@@ -48,7 +49,7 @@ pub fn put_band(
     Ok(())
 }
 
-/// Draws the line on which a band stands.
+/// Draws the line at the bottom of a band.
 fn put_ground(drawing: &mut Drawing<'_>, y: u32) -> Drawn {
     let scale = drawing.scale;
     let (left, right) = (scale.frame.left, scale.frame.right());
@@ -58,7 +59,7 @@ fn put_ground(drawing: &mut Drawing<'_>, y: u32) -> Drawn {
     )
 }
 
-/// Writes the greatest value of a band; nothing if that is 0.
+/// Writes the greatest value of a band; nothing if the value is 0.
 fn put_greatest(drawing: &mut Drawing<'_>, greatest: u32, bottom: u32) -> Drawn {
     let scale = drawing.scale;
     if greatest == 0 {
@@ -112,8 +113,8 @@ fn put_stretch(
     put_number(drawing, "in", x, bottom.saturating_sub(3), value)
 }
 
-/// Draws a length over time as one line through the frame. Where the length is past the frame, the line is at the frame's upper edge; if it
-/// always is, nothing is drawn.
+/// Draws a length over time as one line through the frame. While the length is past the frame, the line is at the frame's upper edge. If
+/// the length is always past the frame, no line is drawn.
 pub fn put_length(drawing: &mut Drawing<'_>, class: &str, series: &Series) -> Drawn {
     let scale = drawing.scale;
     let stretches = stretches_of(*drawing.text.allocator(), series, &scale)?;
@@ -132,7 +133,7 @@ pub fn put_length(drawing: &mut Drawing<'_>, class: &str, series: &Series) -> Dr
     drawing.text.push_str("\"/>\n")
 }
 
-/// Writes a point of a path, and the x up to which the path is level from there.
+/// Writes a point of a path, and the level piece of the path from this point to the x `end`.
 fn put_point(drawing: &mut Drawing<'_>, x: u32, y: u32, end: u32) -> Drawn {
     put_digits(drawing, x)?;
     drawing.text.push(' ')?;
@@ -154,7 +155,7 @@ fn stretches_of(alloc: Global, series: &Series, scale: &Scale) -> Result<Vec<Str
     Ok(stretches)
 }
 
-/// Makes the last stretch longer if it has the same value, or else adds a stretch.
+/// Makes the last stretch longer if the last stretch has this value. If not, adds a new stretch with this value.
 fn add(stretches: &mut Vec<Stretch>, from: u32, until: u32, value: u32) -> Drawn {
     if let Some(last) = stretches.last_mut()
         && last.value == value

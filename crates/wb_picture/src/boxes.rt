@@ -1,5 +1,5 @@
-//! The cells of a run in its panel: a rectangle for each group of parts, what is written in it, and the lines that join a cell that has
-//! moved with its old place.
+//! The cells of a run in its panel: a rectangle for each group of parts of cells' lives, and the words in the rectangle. If a cell has
+//! moved, a line joins its old place and its new place.
 
 use crate::axes::base_line;
 use crate::colours::Paint;
@@ -17,13 +17,13 @@ use crate::titles::{put_group_title, put_part_title};
 use wb_heap_model::heap::Kind;
 use wb_history::{Part, ScriptLines};
 
-/// The least height of a rectangle in which something is written, in pixels.
+/// The least height of a rectangle that has words inside, in pixels.
 pub const LEAST_WITH_TEXT: u32 = 11;
 
-/// The room that a text needs in a rectangle beside its own width, in pixels.
+/// How much wider than its text a rectangle must be to have the text inside, in pixels.
 const ROOM: u32 = 8;
 
-/// Draws the cells that leak if `leaking` is true, else all others.
+/// Draws the cells that leak if `leaking` is true, and all other cells if it is false.
 pub fn put_cells(
     drawing: &mut Drawing<'_>,
     panel: &Panel<'_>,
@@ -54,7 +54,8 @@ pub fn put_group(drawing: &mut Drawing<'_>, panel: &Panel<'_>, group: &Group) ->
     put_join(drawing, panel, parts, first)
 }
 
-/// The style of a rectangle's edge. A small rectangle has no edge; a leak has one unless the edge would cover the leak's red.
+/// The style of a rectangle's edge. A rectangle that is too small has no edge. A leak is too small only if the edge would cover the leak's
+/// red.
 fn edge_of(group: &Group) -> &'static str {
     let low = if group.paint() == Paint::Leak { 3 } else { 8 };
     if group.area().width() < 4 || group.area().height() < low {
@@ -64,7 +65,7 @@ fn edge_of(group: &Group) -> &'static str {
     }
 }
 
-/// Draws a line from the old place of a cell that has moved to its new place.
+/// Draws a line that joins the old and the new place of a cell that has moved.
 fn put_join(drawing: &mut Drawing<'_>, panel: &Panel<'_>, parts: &[Part], part: &Part) -> Drawn {
     let scale = drawing.scale;
     let Some(before) = part.before else {
@@ -89,8 +90,8 @@ fn put_join(drawing: &mut Drawing<'_>, panel: &Panel<'_>, parts: &[Part], part: 
     close_line(drawing)
 }
 
-/// Writes into the rectangles of single cells which cells they are, if there is room and no label of a leak covers them. No line is drawn
-/// over these texts.
+/// Writes the number of each cell that has a rectangle of its own into this rectangle, and after it the cell's kind. What has no room, or
+/// would overlap the label of a leak, isn't written. Cells that leak are left out. No line is drawn over these texts.
 pub fn put_names(
     drawing: &mut Drawing<'_>,
     panel: &Panel<'_>,
@@ -109,7 +110,7 @@ pub fn put_names(
     Ok(())
 }
 
-/// Writes the number of a cell into its rectangle, and what it is for if there is room for that too.
+/// Writes the number of a cell into its rectangle. If there is also room for the cell's kind, writes the kind too.
 fn put_inside(
     drawing: &mut Drawing<'_>,
     panel: &Panel<'_>,
@@ -140,7 +141,7 @@ fn put_inside(
     close_text(drawing)
 }
 
-/// The area of a text of this width, with the middle of its base line at this point.
+/// The area of a text of this width, if the middle of the text's base line is at this point.
 fn area_of_text(x: u32, y: u32, width: u32) -> Area {
     let left = x.saturating_sub(width / 2);
     Area::between(
@@ -151,7 +152,7 @@ fn area_of_text(x: u32, y: u32, width: u32) -> Area {
     )
 }
 
-/// Writes what a cell is for, after its number: the class of an object, or a word or two.
+/// Writes what a cell is for, as words that follow the cell's number: the class of an object, or a word or two for another kind of cell.
 pub fn put_name(drawing: &mut Drawing<'_>, kind: Kind) -> Drawn {
     drawing.text.push(' ')?;
     match kind {

@@ -1,10 +1,10 @@
-//! The colours of a picture, on a light and on a dark background, and what each is for. They are the colours of Okabe and Ito, which
+//! The colours of a picture, on a light and on a dark background, and the use of each colour. The colours are those of Okabe and Ito, which
 //! colour-blind people can tell apart.
 
 use crate::drawing::{Drawing, Drawn};
 use wb_heap_model::heap::Kind;
 
-/// What a cell is painted as.
+/// What a cell's colour says about the cell.
 #[derive(Clone, Copy, PartialEq, Eq)]
 pub enum Paint {
     Raw,
@@ -15,13 +15,13 @@ pub enum Paint {
     Leak,
 }
 
-/// The styles of classes. The second four have the colours of the first four, with a broken edge.
+/// The names of the styles of classes. The last four styles have the colours of the first four, but a broken edge.
 static CLASSES: [&str; 8] = [
     "ob1", "ob2", "ob3", "ob4", "ob1 alt", "ob2 alt", "ob3 alt", "ob4 alt",
 ];
 
 impl Paint {
-    /// The paint of a cell that is no leak. Classes have the same paint if their indices differ by a multiple of 8.
+    /// The paint of a cell that is of this kind and doesn't leak. Classes have the same paint if their indices differ by a multiple of 8.
     pub fn of(kind: Kind) -> Paint {
         match kind {
             Kind::Raw => Paint::Raw,
@@ -31,7 +31,7 @@ impl Paint {
         }
     }
 
-    /// The number of the paint, by which looks are ordered.
+    /// The number of the paint. It orders rectangles that lie at the same place and have the same size.
     pub fn rank(self) -> u32 {
         match self {
             Paint::Raw => 0,

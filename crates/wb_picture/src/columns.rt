@@ -1,12 +1,12 @@
-//! The columns of a picture, and how many steps each of them is.
+//! The columns of a picture, and how many steps each column covers.
 
-/// The columns over all steps of a run, or over its last steps.
+/// The columns that cover all steps of a run, or only its last steps.
 #[derive(Clone, Copy)]
 pub struct Columns {
-    /// The step that the first column begins with.
+    /// The first step of the first column.
     pub first: u32,
     pub count: u32,
-    /// How many steps each column is, at least 1.
+    /// How many steps each column covers, at least 1.
     pub steps: u32,
 }
 
@@ -23,7 +23,7 @@ impl Columns {
         }
     }
 
-    /// The column of a step; the first column for an earlier step, and the last column for a later one.
+    /// The column of a step. For a step before all columns, the result is the first column; for a step after all columns, the last column.
     pub fn column(&self, step: u32) -> u32 {
         let after = step.saturating_sub(self.first);
         let column = after.checked_div(self.steps).unwrap_or(0);

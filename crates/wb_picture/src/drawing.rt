@@ -7,8 +7,8 @@ use wb_history::ScriptLines;
 /// The result of drawing something. The only error is that memory ran out.
 pub type Drawn = Result<(), AllocError>;
 
-/// A picture while it is drawn: its text so far, the lines of the script that it is about, and where steps and places are in the panel that
-/// is being drawn.
+/// A picture while it is drawn: its text so far, the lines of the script that the picture is about, and the scale of the panel that is
+/// being drawn.
 #[derive(Drop)]
 pub struct Drawing<'a> {
     pub text: String,

@@ -1,16 +1,16 @@
-//! Which runs have their end drawn once more, and from which step on.
+//! Whether a picture draws the end of a run once more, wider, and from which step on.
 
 use wb_history::WatchedRun;
 use wb_meaning::run::Outcome;
 
-/// How many of a run's last attempts are drawn once more.
+/// How many of a run's last attempts the second drawing of its end shows.
 const LAST_ATTEMPTS: usize = 60;
 
-/// How many times as long as its end a run is at least, so that the end is drawn wider than before.
+/// The end of a run is drawn once more only if the run has at least this many times as many steps as its end. So the end becomes wider.
 const LONG: u32 = 3;
 
-/// Returns the step from which on the end of a run is drawn once more: the step of the first of its last 60 attempts. `None` if the run
-/// isn't long, or if it neither panicked nor leaked nor was cut.
+/// Returns the step from which on the end of a run is drawn once more: the step of the first of the run's last 60 attempts. Returns `None`
+/// if the run is too short, or if it neither panicked nor leaked nor was cut.
 pub fn first_of_end(run: &WatchedRun<'_>) -> Option<u32> {
     if !is_worth_it(&run.outcome) {
         return None;

@@ -1,4 +1,4 @@
-//! How a run ended, in words and as a line in its panel; and how the runs of a table end, in words.
+//! How a run ended, in words and as a line in the run's panel; and how the runs of a table end, in words.
 
 use crate::drawing::{Drawing, Drawn};
 use crate::escape::put_line;
@@ -9,7 +9,7 @@ use wb_history::WatchedRun;
 use wb_meaning::run::{Outcome, Why};
 use wb_runs::run_end::RunEnd;
 
-/// How far above the frame the words are, in pixels.
+/// How far the words about a run's end are above the frame, in pixels.
 const ABOVE: u32 = 24;
 
 /// Draws the end of a run that panicked, left or was cut, or that ended before the other run of its picture.
@@ -31,8 +31,8 @@ pub fn put_ending(drawing: &mut Drawing<'_>, run: &WatchedRun<'_>) -> Drawn {
     put_label(drawing, run, x)
 }
 
-/// The script's line at which a run ended: the line that panicked or left, or the last line of `main`, whatever ran after it to undo; 0 if
-/// no line was begun.
+/// The script's line at which a run ended: the line that panicked or left, or the last line of `main`. Lines that ran afterwards, in
+/// operations or destructors, don't count. The result is 0 if no line was begun.
 fn last_line_of(run: &WatchedRun<'_>) -> u32 {
     match &run.outcome {
         Outcome::Ended { .. } => run.history.last_line_outside(),
@@ -59,7 +59,8 @@ fn put_words(drawing: &mut Drawing<'_>, run: &WatchedRun<'_>) -> Drawn {
     put_line(drawing, last_line_of(run))
 }
 
-/// Writes how the run ended above the line at its end: to the right of that line, around it or to its left, whichever has room.
+/// Writes the words about the run's end above the line that is drawn at this end. The words are to the right of the line, centred on it, or
+/// to its left, whichever has room.
 fn put_label(drawing: &mut Drawing<'_>, run: &WatchedRun<'_>, x: u32) -> Drawn {
     let scale = drawing.scale;
     let third = scale.frame.width / 3;
@@ -101,7 +102,7 @@ fn put_cut(drawing: &mut Drawing<'_>, why: Why) -> Drawn {
     })
 }
 
-/// Says how the runs of a table end, in the words of `put_outcome` as far as the table has room for them.
+/// Says how the runs of a table end, in as many of the words of `put_outcome` as the table has room for.
 pub fn put_run_end(drawing: &mut Drawing<'_>, end: RunEnd) -> Drawn {
     match end {
         RunEnd::NoCleanup => drawing.text.push_str("no cleanup stack"),

@@ -1,16 +1,16 @@
-//! Text of the user in a picture. Only this file writes names, literals and lines of a script into a picture.
+//! How a picture holds text of the user. Only this file writes names, literals and lines of a script into a picture.
 
 use crate::drawing::{Drawing, Drawn};
 use crate::labels::put_both;
 
-/// How many characters of such a text are shown at most.
+/// How many characters of a text of the user are shown at most.
 const MOST_SHOWN: usize = 60;
 
-/// How wide a letter is taken to be, in pixels. Most letters are no wider.
+/// The width that is assumed for each letter, in pixels. Most letters are no wider.
 const LETTER: u32 = 7;
 
-/// Writes the beginning of a text of the user. Characters with a meaning in XML are written as references, and those that XML 1.0 doesn't
-/// allow are left out. So nothing in the text can end the element or the attribute that it is in.
+/// Writes the beginning of a text of the user. Characters with a meaning in XML become references, and characters that XML 1.0 forbids are
+/// left out. So nothing in the text can end the element or the attribute around it.
 pub fn put_escaped(drawing: &mut Drawing<'_>, shown: &str) -> Drawn {
     if is_plain(shown) {
         return drawing.text.push_str(shown);
@@ -37,13 +37,13 @@ pub fn put_line(drawing: &mut Drawing<'_>, number: u32) -> Drawn {
     put_escaped(drawing, line.trim())
 }
 
-/// Writes the name of a class, by its index.
+/// Writes the name of the class with this index.
 pub fn put_class(drawing: &mut Drawing<'_>, class: u16) -> Drawn {
     let name = drawing.lines.class_name(class);
     put_escaped(drawing, name)
 }
 
-/// Whether a text is shown as it is: it is short, and has only printable ASCII characters that have no meaning in XML.
+/// Whether a text can be shown unchanged: it is short, and has only printable ASCII characters without a meaning in XML.
 fn is_plain(shown: &str) -> bool {
     let bytes = shown.as_bytes();
     bytes.len() <= MOST_SHOWN && bytes.iter().all(|byte| is_plain_byte(*byte))
@@ -56,7 +56,7 @@ fn is_plain_byte(byte: u8) -> bool {
     }
 }
 
-/// How wide a text of the user is as it is shown, in pixels.
+/// How wide the shown part of a text of the user is, in pixels.
 pub fn width_of(shown: &str) -> u32 {
     let letters = shown.len().min(MOST_SHOWN);
     u32::try_from(letters).unwrap_or(0).saturating_mul(LETTER)

@@ -1,5 +1,5 @@
-//! Which places are drawn shorter: the longest stretches in which nothing begins or ends, if what is beside these stretches would otherwise
-//! be too low to be seen.
+//! Which places are drawn shorter: the longest stretches in which nothing begins or ends. Stretches are drawn shorter only if some of the
+//! other places would be too low to be seen without this.
 
 use crate::places::{Fold, MOST_FOLDS, Places};
 use std::alloc::{AllocError, Global};
@@ -7,20 +7,22 @@ use std::alloc::{AllocError, Global};
 /// Into how many parts the places are divided.
 const PARTS: u32 = 256;
 
-/// A stretch that is less than 1/`LOW` of all places is too low to be seen.
+/// A stretch with less than 1/`LOW` of all places is too low to be seen.
 const LOW: u32 = 60;
 
-/// Enough is folded if the places that aren't folded are at most 1/`LITTLE` of all places.
+/// Enough is folded if at most 1/`LITTLE` of all places remain unfolded.
 const LITTLE: u32 = 4;
 
-/// The least and the greatest edge in one part of the places. If the part has no edge, `least` is greater than `greatest`.
+/// The least and the greatest edge in one part of the places; an edge is a place at which something begins or ends. If the part has no
+/// edge, `least` is greater than `greatest`.
 #[derive(Clone, Copy)]
 struct PartEdges {
     least: u32,
     greatest: u32,
 }
 
-/// The places at which something begins or ends. Of each part only the least and the greatest of these are kept.
+/// The places at which something begins or ends, called edges. The places are divided into parts, and only the least and the greatest edge
+/// of each part are kept.
 #[derive(Drop)]
 pub struct Edges {
     /// The greatest place that may be an edge, and the greatest edge so far.
@@ -39,7 +41,7 @@ struct Gap {
 }
 
 impl Edges {
-    /// No edges yet. Places up to `last` may be edges.
+    /// Begins without edges. Only places up to `last` may become edges.
     pub fn up_to(alloc: Global, last: u32) -> Result<Edges, AllocError> {
         let none = PartEdges {
             least: u32::MAX,
@@ -53,7 +55,7 @@ impl Edges {
         })
     }
 
-    /// Adds an edge, unless it is past the last place.
+    /// Adds an edge, unless the edge is past the last place.
     #[inline(always)]
     pub fn add(&mut self, place: u32) {
         if place > self.last {
@@ -67,7 +69,7 @@ impl Edges {
         }
     }
 
-    /// The same places, with the longest gaps folded if something would be too low to be seen.
+    /// Returns `places`, with the longest gaps folded if something would be too low to be seen without folds.
     pub fn fold(&self, alloc: Global, places: Places) -> Result<Places, AllocError> {
         let mut gaps = self.gaps(alloc)?;
         gaps.sort_unstable();
@@ -84,7 +86,7 @@ impl Edges {
         Ok(places.with_folds(folds_of(longest.as_slice(), self.highest)))
     }
 
-    /// The gaps between edges, without those inside one part, which are the shortest.
+    /// The gaps between edges in different parts of the places. Gaps inside one part are shorter, and are left out.
     fn gaps(&self, alloc: Global) -> Result<Vec<Gap>, AllocError> {
         let mut gaps = Vec::new(alloc);
         let mut from = 0u32;
@@ -98,8 +100,8 @@ impl Edges {
         Ok(gaps)
     }
 
-    /// How many of the longest gaps are to be folded: the fewest that leave little, or 0 if nothing is too low, or if `MOST_FOLDS` aren't
-    /// enough. `gaps` is sorted.
+    /// How many of the longest gaps are to be folded: the fewest gaps whose folding leaves few enough places. The number is 0 if nothing is
+    /// too low to be seen, or if `MOST_FOLDS` folds aren't enough. `gaps` is sorted.
     fn count_to_fold(&self, gaps: &[Gap]) -> usize {
         if !self.has_low(gaps) {
             return 0;
@@ -114,7 +116,7 @@ impl Edges {
         0
     }
 
-    /// Whether two edges are so near to each other that what is between them would be too low to be seen.
+    /// Whether two edges are so near to each other that the stretch between them would be too low to be seen.
     fn has_low(&self, gaps: &[Gap]) -> bool {
         for part in self.parts.as_slice() {
             if part.least < part.greatest {
@@ -130,7 +132,8 @@ impl Edges {
     }
 }
 
-/// The length of the gap with the number `count`, where the last gap is number 1; 0 if there is no such gap.
+/// The length of the gap with the number `count`, counted from the end of the list; the last gap is number 1. The length is 0 if there is
+/// no such gap.
 fn length_from_end(gaps: &[Gap], count: usize) -> u32 {
     match gaps.get(gaps.len().wrapping_sub(count)) {
         Some(gap) => gap.length,
@@ -138,8 +141,8 @@ fn length_from_end(gaps: &[Gap], count: usize) -> u32 {
     }
 }
 
-/// Folds for these gaps, of which there are at most three. Each is drawn as high as the unfolded places divided by the number of gaps plus
-/// 1.
+/// The folds of these gaps, at most three. The height of each fold is the number of unfolded places divided by one more than the number of
+/// gaps.
 fn folds_of(gaps: &[Gap], highest: u32) -> [Fold; MOST_FOLDS] {
     let mut rest = highest;
     let mut count = 1u32;
@@ -153,7 +156,7 @@ fn folds_of(gaps: &[Gap], highest: u32) -> [Fold; MOST_FOLDS] {
     [first, second, lowest_after(gaps, Some(second.from), drawn)]
 }
 
-/// The fold of the lowest gap, of those that begin after a place if one is given; an empty fold if there is no such gap.
+/// The fold of the lowest gap. If `after` is given, only gaps that begin after this place count. If no gap counts, the fold is empty.
 fn lowest_after(gaps: &[Gap], after: Option<u32>, drawn: u32) -> Fold {
     let mut lowest = Fold::empty();
     for gap in gaps {

@@ -1,4 +1,5 @@
-//! Which parts of cells' lives are drawn as one rectangle: each part alone, or, in a run with many cells, parts that look the same.
+//! Which parts of cells' lives are drawn as one rectangle. Usually each part has its own rectangle. In a run with many cells, parts that
+//! look the same share one rectangle.
 
 use crate::colours::Paint;
 use crate::drawing::Drawn;
@@ -7,16 +8,17 @@ use crate::scale::{Area, Scale};
 use std::alloc::{AllocError, Global};
 use wb_history::{NEVER, Part};
 
-/// How many of the groups that were added last a part is compared with. Groups further back that look the same are found when all are sorted.
+/// A new part is compared with this many of the groups that were added last. Groups further back that look the same as the part are found
+/// later, by sorting.
 const NEAR: usize = 4;
 
-/// How many entries `Spans::near` keeps at most. Only the last `NEAR` of them are looked at.
+/// How many entries `Spans::near` keeps at most. Only the last `NEAR` entries are used.
 const MOST_NEAR: usize = 64;
 
-/// How many times the unit of edges is doubled at most, until the groups are few enough.
+/// How many times the unit to which edges are rounded may be doubled, to make the groups few enough.
 const MOST_HALVINGS: u32 = 12;
 
-/// The places, the columns and the paint of a part. Parts with the same extent look the same.
+/// The places, the columns and the paint of a part of a cell's life. Parts with equal extents look the same.
 #[derive(Clone, Copy, PartialEq, Eq)]
 struct Extent {
     place: u32,
@@ -40,11 +42,11 @@ impl Extent {
     }
 }
 
-/// Parts that are drawn as one rectangle. Groups are ordered by their looks first.
+/// Parts that are drawn as one rectangle. Groups are ordered by look first.
 #[derive(Clone, Copy, PartialEq, Eq, PartialOrd, Ord)]
 pub struct Group {
     look: Look,
-    /// The index of the first of the parts, and of the last.
+    /// The indexes of the first part (`first`) and of the last part (`last`).
     pub first: usize,
     pub last: usize,
     pub count: u32,
@@ -69,7 +71,7 @@ impl Group {
         self.look.paint()
     }
 
-    /// The same group, with the edges of its look at multiples of `unit` pixels.
+    /// Returns this group, with the edges of its look at multiples of `unit` pixels.
     fn coarser(&self, scale: &Scale, unit: u32) -> Group {
         Group {
             look: self.look.coarser(scale, unit),
@@ -77,14 +79,14 @@ impl Group {
         }
     }
 
-    /// Adds the parts of a group that looks the same.
+    /// Adds the parts of another group that looks the same as this group.
     fn add(&mut self, other: &Group) {
         self.first = self.first.min(other.first);
         self.last = self.last.max(other.last);
         self.count = self.count.saturating_add(other.count);
     }
 
-    /// Adds one part, by its index, which comes after all others of the group.
+    /// Adds the part with this index, which must come after all other parts of the group.
     fn add_later(&mut self, index: usize) {
         self.last = index;
         self.count = self.count.saturating_add(1);
@@ -98,16 +100,16 @@ struct Near {
     span: usize,
 }
 
-/// Groups of parts, in order of their first parts. Some parts with the same extent are in one group already.
+/// Groups of parts, in order of their first parts. Some parts with equal extents already share a group.
 #[derive(Drop)]
 struct Spans {
     groups: Vec<Group>,
-    /// The extents of the groups that were added last. Only the last `NEAR` of them are looked at.
+    /// The extents of the groups that were added last. Only the last `NEAR` entries of `near` are used.
     near: Vec<Near>,
 }
 
 impl Spans {
-    /// Adds a part by its index. It comes after all parts that were added before.
+    /// Adds the part with this index, which must come after all parts that were added before.
     #[inline(always)]
     fn add(&mut self, part: &Part, index: usize, scale: &Scale) -> Drawn {
         let extent = Extent::of(part, scale);
@@ -120,7 +122,7 @@ impl Spans {
         self.add_span(extent, &Group::of(look_of(part, scale), index))
     }
 
-    /// The index of the group with this extent, if it is one of the last `NEAR` in `near`; else `None`.
+    /// The index of the group with this extent; `None` if the last `NEAR` entries of `near` hold no such extent.
     #[inline(always)]
     fn span_near(&self, extent: &Extent) -> Option<usize> {
         for at in self.near.len().saturating_sub(NEAR)..self.near.len() {
@@ -133,7 +135,7 @@ impl Spans {
         None
     }
 
-    /// Adds a group with this extent, which `span_near` doesn't find.
+    /// Adds a group with this extent, after `span_near` found no such group.
     #[inline(never)]
     fn add_span(&mut self, extent: Extent, group: &Group) -> Drawn {
         if self.near.len() >= MOST_NEAR {
@@ -146,11 +148,11 @@ impl Spans {
     }
 }
 
-/// Groups of which no two look the same, merged from groups that are added in order of their left edges.
+/// Groups that all look different, merged from the groups that were added. Groups must be added in order of their left edges.
 #[derive(Drop)]
 struct Merged {
     groups: Vec<Group>,
-    /// The groups with the left edge that was added last.
+    /// The groups with the same left edge as the group that was added last.
     open: Vec<Group>,
 }
 
@@ -173,7 +175,7 @@ impl Merged {
         Ok(())
     }
 
-    /// Merges the groups with the left edge that was added last.
+    /// Merges the groups in `open`, which all have the same left edge, and moves them to `groups`.
     fn close(&mut self) -> Drawn {
         self.open.sort_unstable();
         for group in self.open.as_slice() {
@@ -184,7 +186,7 @@ impl Merged {
     }
 }
 
-/// Adds a group after the others, or to the last of them if that looks the same.
+/// Adds a group after the others. If the last group looks the same, adds the new group's parts to it instead.
 fn add_sorted(groups: &mut Vec<Group>, group: &Group) -> Drawn {
     if let Some(last) = groups.last_mut()
         && last.look == group.look
@@ -199,9 +201,9 @@ fn add_sorted(groups: &mut Vec<Group>, group: &Group) -> Drawn {
 /// Which parts a panel shows.
 #[derive(Clone, Copy, PartialEq, Eq)]
 enum Shown {
-    /// All parts that are there in at least one step of the panel.
+    /// All parts that exist in at least one step of the panel.
     Present,
-    /// Of these, the parts that begin or end in a step of the panel.
+    /// Only the parts that begin or end in a step of the panel.
     Changing,
 }
 
@@ -218,11 +220,12 @@ impl Shown {
 /// The groups of the parts that a panel shows.
 pub struct Groups {
     pub groups: Vec<Group>,
-    /// Whether the parts that don't change in the panel's steps are left out.
+    /// Whether the parts that neither begin nor end in the panel's steps are left out.
     pub is_partial: bool,
 }
 
-/// Written out, so that proofs of other functions see one call where a `Groups` is dropped, and go over its fields only here.
+/// This `drop` is written by hand, so that dropping a `Groups` is a single call in a proof. Only the proof of `drop` itself goes over the
+/// fields.
 impl Drop for Groups {
     fn drop(self) {
         let Groups {
@@ -232,8 +235,8 @@ impl Drop for Groups {
     }
 }
 
-/// The groups of these parts, about `most` at most. If the panel shows the end of a run and has too many parts, those that don't change in
-/// its steps are left out.
+/// Returns the groups of these parts: at most `most` groups, if that is possible. If the panel shows the end of a run and has too many
+/// parts, only the parts that begin or end in the panel's steps are kept.
 pub fn groups_of(
     alloc: Global,
     parts: &[Part],
@@ -255,7 +258,7 @@ pub fn groups_of(
     Ok(Groups { groups, is_partial })
 }
 
-/// How many parts a panel shows.
+/// How many of these parts a panel shows.
 fn count_shown(parts: &[Part], scale: &Scale, shown: Shown) -> usize {
     if scale.columns.first == 0 && shown == Shown::Present {
         return parts.len();
@@ -269,7 +272,7 @@ fn count_shown(parts: &[Part], scale: &Scale, shown: Shown) -> usize {
     count
 }
 
-/// A group for each part that is shown.
+/// Returns one group for each part that is shown.
 fn each_alone(
     alloc: Global,
     parts: &[Part],
@@ -285,7 +288,7 @@ fn each_alone(
     Ok(groups)
 }
 
-/// The groups of the parts that are shown, of which some with the same extent are in one group already.
+/// Returns groups of the parts that are shown. Some parts with equal extents already share a group.
 fn spans_of(
     alloc: Global,
     parts: &[Part],
@@ -304,7 +307,7 @@ fn spans_of(
     Ok(spans.groups)
 }
 
-/// The groups of parts that look the same, with the edges so coarse that there are at most `most` groups, if that is possible.
+/// Merges groups that look the same. Edges are rounded more and more coarsely until there are at most `most` groups, if that is possible.
 fn merge_up_to(
     alloc: Global,
     spans: &[Group],
@@ -322,8 +325,8 @@ fn merge_up_to(
     merge(alloc, spans, scale, unit, usize::MAX)
 }
 
-/// The groups of parts that look the same with their edges at multiples of `unit` pixels. Once there are more than `most` groups, the rest
-/// may be left out.
+/// Merges groups that look the same when their edges are rounded to multiples of `unit` pixels. Once there are more than `most` merged
+/// groups, the remaining groups may be left out.
 fn merge(
     alloc: Global,
     spans: &[Group],

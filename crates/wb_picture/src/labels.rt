@@ -5,13 +5,13 @@ use crate::scale::Area;
 use itoa::Buffer;
 use std::fmt::{Display, Write};
 
-/// Writes the digits of a number. A picture has thousands of numbers, and `write!` takes several times as long for each.
+/// Writes the digits of a number. A picture has thousands of numbers, and `write!` would take several times as long for each number.
 pub fn put_digits(drawing: &mut Drawing<'_>, number: u32) -> Drawn {
     let mut buffer = Buffer::new();
     drawing.text.push_str(buffer.format(number))
 }
 
-/// Writes what comes before a number, and the number.
+/// Writes the words before a number, and then the number.
 pub fn put_both(drawing: &mut Drawing<'_>, before: &str, number: u32) -> Drawn {
     drawing.text.push_str(before)?;
     put_digits(drawing, number)
@@ -33,7 +33,7 @@ pub fn open_cell(drawing: &mut Drawing<'_>, edge: &str, paint: &str, area: Area)
     put_edges(drawing, area)
 }
 
-/// Writes where a rectangle is, after its class, and opens its title.
+/// Writes the position and the size of a rectangle after the rectangle's class, and opens the title.
 fn put_edges(drawing: &mut Drawing<'_>, area: Area) -> Drawn {
     put_both(drawing, "\" x=\"", area.left)?;
     put_both(drawing, "\" y=\"", area.top)?;
@@ -47,15 +47,15 @@ pub fn close_rect(drawing: &mut Drawing<'_>) -> Drawn {
     drawing.text.push_str("</title></rect>\n")
 }
 
-/// Opens a path before its points.
+/// Writes the beginning of a path, up to its points.
 pub fn open_path(drawing: &mut Drawing<'_>, class: &str) -> Drawn {
     drawing.text.push_str("<path class=\"")?;
     drawing.text.push_str(class)?;
     drawing.text.push_str("\" d=\"")
 }
 
-/// Writes a path from the upper left to the lower right corner of an area, and opens its title. The area is a vertical or a horizontal
-/// line.
+/// Writes a path from the upper left to the lower right corner of an area, and opens the path's title. The area must be a vertical or a
+/// horizontal line.
 pub fn open_line(drawing: &mut Drawing<'_>, class: &str, area: Area) -> Drawn {
     open_path(drawing, class)?;
     put_both(drawing, "M", area.left)?;
@@ -70,7 +70,7 @@ pub fn close_line(drawing: &mut Drawing<'_>) -> Drawn {
     drawing.text.push_str("</title></path>\n")
 }
 
-/// Opens a text. Its base line begins at `x` and `y`, unless its class says otherwise.
+/// Opens a text. The text's base line begins at `x` and `y`, unless the text's class says otherwise.
 pub fn open_text(drawing: &mut Drawing<'_>, class: &str, x: u32, y: u32) -> Drawn {
     drawing.text.push_str("<text class=\"")?;
     drawing.text.push_str(class)?;
@@ -84,7 +84,7 @@ pub fn close_text(drawing: &mut Drawing<'_>) -> Drawn {
     drawing.text.push_str("</text>\n")
 }
 
-/// Writes a text. Its base line begins at `x` and `y`, unless its class says otherwise.
+/// Writes a text. The text's base line begins at `x` and `y`, unless the text's class says otherwise.
 pub fn put_text<D: Display + Drop>(
     drawing: &mut Drawing<'_>,
     class: &str,
@@ -128,7 +128,7 @@ pub fn put_number(drawing: &mut Drawing<'_>, class: &str, x: u32, y: u32, number
     close_text(drawing)
 }
 
-/// How wide a number is as a text, in pixels.
+/// How wide the digits of a number are, in pixels.
 pub fn width_of_number(number: u32) -> u32 {
     let mut digits = 1u32;
     let mut rest = number / 10;

@@ -1,5 +1,5 @@
-//! The labels of leaks in a panel, each with the script's line that made the leak. A label is inside its leak if there is room, and else
-//! beside it. Labels are placed from the top down.
+//! The labels of leaks in a panel, each with the script's line that made the leaked cell. A label is inside its leak if there is room, and
+//! beside the leak if not. Labels are placed from the top down.
 
 use crate::axes::base_line;
 use crate::boxes::{LEAST_WITH_TEXT, put_name, width_of_name};
@@ -15,13 +15,13 @@ use wb_heap_model::heap::Kind;
 /// The distance between the base lines of labels, in pixels.
 const APART: u32 = 13;
 
-/// The distance from a leak to its label beside it, in pixels.
+/// The distance from a leak to a label beside the leak, in pixels.
 const BESIDE: u32 = 5;
 
 /// How far below the middle of a leak the base line of its label is, in pixels.
 const RISE: u32 = 4;
 
-/// How many leaks have labels at most. One more label says how many have none.
+/// The most leaks that have labels. One more label says how many leaks have no label.
 const MOST_LABELS: usize = 12;
 
 /// The width of the words in a label of one leak, without numbers and names, in pixels.
@@ -30,15 +30,15 @@ const WORDS: u32 = 90;
 /// The width of the words in a label of several leaks, without numbers, in pixels.
 const WORDS_OF_MANY: u32 = 180;
 
-/// A rectangle of leaks. Such rectangles are ordered from the top down.
+/// A rectangle of leaks. Rectangles of leaks are ordered from the top down.
 #[derive(Clone, Copy, PartialEq, Eq, PartialOrd, Ord)]
 struct Leak {
     y: u32,
-    /// The index of its group.
+    /// The index of the rectangle's group.
     group: usize,
 }
 
-/// The label of a rectangle of leaks, or the last label, which says how many such rectangles have none.
+/// The label of a rectangle of leaks, or the last label, which says how many rectangles of leaks have no label.
 #[derive(Clone, Copy)]
 pub struct LeakLabel {
     area: Area,
@@ -46,11 +46,11 @@ pub struct LeakLabel {
     x: u32,
     y: u32,
     group: Group,
-    /// How many rectangles of leaks have no label; 0 in all labels but the last.
+    /// How many rectangles of leaks have no label; it is 0 in all labels but the last.
     more: usize,
 }
 
-/// Whether an area is free of labels.
+/// Whether no label overlaps this area.
 pub fn is_free(labels: &[LeakLabel], area: &Area) -> bool {
     for label in labels {
         if label.area.meets(area) {
@@ -60,7 +60,7 @@ pub fn is_free(labels: &[LeakLabel], area: &Area) -> bool {
     true
 }
 
-/// The labels of leaks, from the top down, none over another and all in the frame.
+/// The labels of leaks, from the top down. No label covers another, and all labels are in the frame.
 pub fn labels_of(
     drawing: &Drawing<'_>,
     panel: &Panel<'_>,
@@ -91,7 +91,7 @@ pub fn labels_of(
     Ok(labels)
 }
 
-/// The lowest base line of the first label with which the labels of all other leaks still have room in the frame.
+/// The lowest base line that the first label may have if the labels of all other leaks are to have room below it in the frame.
 fn lowest_of_first(scale: &Scale, leaks: usize) -> u32 {
     let others = leaks.saturating_sub(1).min(MOST_LABELS);
     let room = u32::try_from(others).unwrap_or(0).saturating_mul(APART);
@@ -117,7 +117,8 @@ fn leaks_of(alloc: Global, scale: &Scale, groups: &[Group]) -> Result<Vec<Leak>,
     Ok(leaks)
 }
 
-/// A label on this base line: inside its leak, after it, before it, or over it.
+/// The label of a leak, with its base line at `y`. The label is inside the leak, to its right, to its left, or over it: whichever of these
+/// has room first.
 fn label_at(
     drawing: &Drawing<'_>,
     panel: &Panel<'_>,

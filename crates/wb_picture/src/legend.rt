@@ -1,4 +1,4 @@
-//! The legend of a picture. It has entries only for what the picture shows.
+//! The legend of a picture. The legend has entries only for things that the picture shows.
 
 use crate::colours::Paint;
 use crate::drawing::{Drawing, Drawn};
@@ -18,7 +18,8 @@ const BESIDE_TEXT: u32 = 40;
 /// No class is added once there are this many entries.
 const MOST_ENTRIES: usize = 15;
 
-/// An entry: a style, what the style is for, and where the entry is: `x` pixels from the left edge of the picture, in a row counted from 0.
+/// An entry of the legend: a style, the meaning of the style, and the entry's position. The position is `x` pixels from the picture's left
+/// edge, in a row counted from 0.
 #[derive(Clone, Copy)]
 struct Entry<'a> {
     class: &'static str,
@@ -33,12 +34,12 @@ pub struct Legend<'a> {
     entries: Vec<Entry<'a>>,
     left: u32,
     right: u32,
-    /// Where the next entry goes if it has room.
+    /// The position of the next entry, if there is room for the entry.
     x: u32,
     row: u32,
 }
 
-/// What is seen in a picture.
+/// Which things a picture shows.
 #[derive(Drop)]
 struct Seen {
     stack: bool,
@@ -106,7 +107,7 @@ impl Seen {
 }
 
 impl<'a> Legend<'a> {
-    /// The legend of these runs, between a left and a right edge; `is_folded` says whether places are drawn shorter somewhere.
+    /// Returns the legend of these runs, between a left and a right edge. `is_folded` says whether some places are drawn shorter.
     pub fn of(
         drawing: &Drawing<'a>,
         runs: ShownRuns<'_>,
@@ -133,7 +134,7 @@ impl<'a> Legend<'a> {
         Ok(legend)
     }
 
-    /// Adds an entry if what it is for is seen, and begins a new row if the entry has no room in the last one.
+    /// Adds an entry if `is_seen` is true. Begins a new row if the last row has no room for the entry.
     fn add(&mut self, is_seen: bool, class: &'static str, name: &'a str) -> Drawn {
         if !is_seen {
             return Ok(());
@@ -173,7 +174,7 @@ impl<'a> Legend<'a> {
         self.row.saturating_add(1).saturating_mul(ROW)
     }
 
-    /// Writes the legend; the base line of its first row is at `y`.
+    /// Writes the legend. The base line of the legend's first row is at `y`.
     pub fn put_rows(&self, drawing: &mut Drawing<'_>, y: u32) -> Drawn {
         for entry in self.entries.as_slice() {
             let row = y.saturating_add(entry.row.saturating_mul(ROW));

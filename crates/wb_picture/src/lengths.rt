@@ -1,5 +1,5 @@
-//! The lengths of a heap in its panel: each rise, with the attempt that made it, the length that the run comes to, the limit, and the
-//! committed length. The labels of all but the rises are on the right of the frame.
+//! The lengths of a heap in its panel: each rise with the attempt that made it, the greatest length that the run reaches, the limit, and
+//! the committed length. The labels of the rises are in the frame; all other labels are to the right of the frame.
 
 use crate::bands::put_length;
 use crate::drawing::{Drawing, Drawn};
@@ -26,7 +26,7 @@ enum Name {
     Committed,
 }
 
-/// A label. Labels are ordered by their y first, and so sorted from the top down.
+/// A label. Labels are ordered by y first, so sorting puts them in order from the top down.
 #[derive(Clone, Copy, PartialEq, Eq, PartialOrd, Ord)]
 struct Label {
     y: u32,
@@ -44,7 +44,7 @@ impl Name {
         }
     }
 
-    /// The style of its line.
+    /// The style of the line with this name.
     fn class(self) -> &'static str {
         match self {
             Name::Limit => "limit",
@@ -54,7 +54,8 @@ impl Name {
     }
 }
 
-/// The rises of a run from the step `first` on: the granted attempts whose cells end past all that were granted before them.
+/// Returns the rises of a run from the step `first` on. A rise is a granted attempt whose cell ends past all cells that were granted
+/// earlier.
 pub fn rises_of<'a>(
     alloc: Global,
     run: &'a WatchedRun<'a>,
@@ -73,7 +74,7 @@ pub fn rises_of<'a>(
     Ok(rises)
 }
 
-/// The greatest end of a cell that one of these attempts was granted, in bytes; 0 if there is none.
+/// The greatest end of a cell that one of these attempts was granted, in bytes; 0 if no attempt was granted.
 pub fn longest_end(attempts: &[AttemptMade<'_>]) -> u32 {
     let mut top = 0;
     for it in attempts {
@@ -142,7 +143,7 @@ fn put_across(
     )
 }
 
-/// Writes the labels, from the top down, none over another.
+/// Writes the labels from the top down, without overlaps.
 fn put_labels(drawing: &mut Drawing<'_>, labels: &Vec<Label>) -> Drawn {
     let scale = drawing.scale;
     let x = scale.frame.right().saturating_add(6);
@@ -163,14 +164,14 @@ fn put_labels(drawing: &mut Drawing<'_>, labels: &Vec<Label>) -> Drawn {
     Ok(())
 }
 
-/// Where the last number was written.
+/// The position of the number that was written last.
 #[derive(Drop)]
 struct Pen {
     x: u32,
     y: u32,
 }
 
-/// Draws each rise as a line from its step to the step of the next rise. The number of its attempt is written where other labels leave
+/// Draws each rise as a line from its step to the step of the next rise. Writes the number of the rise's attempt if other labels leave
 /// room.
 pub fn put_rises(
     drawing: &mut Drawing<'_>,
@@ -196,7 +197,7 @@ pub fn put_rises(
     Ok(())
 }
 
-/// The line of the rises in one column, from this column to `end`.
+/// The line of the last rise in one column, from this column to `end`.
 fn line_of(scale: &Scale, step: &ColumnAttempts<'_, '_>, end: u32) -> Area {
     let y = scale.y(step.last.top());
     Area::level(scale.x(step.column), end, y)
@@ -222,8 +223,8 @@ fn put_rise_title(drawing: &mut Drawing<'_>, step: &ColumnAttempts<'_, '_>) -> D
     put_line(drawing, step.first.maker.line)
 }
 
-/// Writes the number of a rise above the beginning of its line, unless it would reach past the end of the line, or cover the number before
-/// it or the label of a leak.
+/// Writes the number of a rise above the beginning of the rise's line. The number is left out if it would reach past the end of the line,
+/// or cover the number before it or the label of a leak.
 fn put_rise_number(
     drawing: &mut Drawing<'_>,
     rise: &AttemptMade<'_>,

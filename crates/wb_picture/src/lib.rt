@@ -1,6 +1,7 @@
 //! Pictures of the heap over a run, as the text of an SVG file.
 //!
-//! Plain functions from values to text. No report depends on them. What happened in a run is known from its history (`wb_history`).
+//! The functions turn values into text and have no other effect. No report depends on them. A run's history (`wb_history`) holds what
+//! happened in the run.
 #![tactic(auto)]
 
 mod axes;

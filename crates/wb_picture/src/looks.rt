@@ -1,4 +1,4 @@
-//! How rectangles of cells look: where each is in its frame, and its paint.
+//! How a rectangle of cells looks: its position in the frame, and its paint.
 
 use crate::colours::Paint;
 use crate::scale::{Area, Scale};
@@ -6,11 +6,11 @@ use crate::scale::{Area, Scale};
 /// How wide a leak is at least, in pixels.
 const LEAST_LEAK: u32 = 6;
 
-/// The greatest edge that a look has; no picture is as wide or high.
+/// The greatest edge that a look may have. Every picture is narrower and lower than this edge.
 const GREATEST_EDGE: u32 = 0xffff;
 
-/// An area and a paint. Looks are ordered by their left, right, upper and lower edges, and then by their paints. All but the left edge is
-/// packed into one number, so that looks are compared and sorted quickly.
+/// An area and a paint. Looks are ordered by their left, right, upper and lower edges, and then by their paints. One number holds the paint
+/// and all edges but the left edge, so that looks are compared and sorted quickly.
 #[derive(Clone, Copy, PartialEq, Eq, PartialOrd, Ord)]
 pub struct Look {
     left: u32,
@@ -19,7 +19,8 @@ pub struct Look {
 }
 
 impl Look {
-    /// The look of an area with this paint: made large enough to be seen, and cut to the frame. A leak may go past the frame's right edge.
+    /// The look of an area with this paint. The area is made large enough to be seen, and cut to the frame; but a leak may go past the
+    /// frame's right edge.
     pub fn of(area: Area, paint: Paint, scale: &Scale) -> Look {
         Look::within(area.at_least(least_width(paint), 2), paint, scale)
     }
@@ -41,7 +42,7 @@ impl Look {
         Paint::at(u32::try_from(self.rest & 0xff).unwrap_or(0))
     }
 
-    /// The same look, with its edges at multiples of `unit` pixels.
+    /// Returns this look, with its edges at multiples of `unit` pixels.
     pub fn coarser(self, scale: &Scale, unit: u32) -> Look {
         let area = self.area();
         let coarse = Area {
@@ -53,7 +54,7 @@ impl Look {
         Look::within(coarse, self.paint(), scale)
     }
 
-    /// The look of the part of an area that is in the frame. A leak may go past the frame's right edge.
+    /// The look of the part of an area that is inside the frame; but a leak may go past the frame's right edge.
     fn within(area: Area, paint: Paint, scale: &Scale) -> Look {
         let past = least_width(paint).saturating_sub(1);
         let right = area.right.min(scale.frame.right().saturating_add(past));
@@ -71,7 +72,7 @@ fn wide(edge: u32) -> u64 {
     u64::from(edge.min(GREATEST_EDGE))
 }
 
-/// The edge in the lowest 16 bits of a number.
+/// The edge that the lowest 16 bits of a number hold.
 fn lowest_edge(edges: u64) -> u32 {
     u32::try_from(edges & u64::from(GREATEST_EDGE)).unwrap_or(0)
 }

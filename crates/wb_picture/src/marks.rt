@@ -1,5 +1,5 @@
-//! The attempts of a run in its panel: a tick above the frame for each attempt, and a mark at the place that was chosen for an attempt that
-//! failed. Attempts that fall in one column share one tick or mark.
+//! The attempts of a run in its panel. Each attempt has a tick above the frame. Each attempt that failed also has a mark at the place that
+//! was chosen for its cell. Attempts in one column share a tick and a mark.
 
 use crate::drawing::{Drawing, Drawn};
 use crate::labels::{
@@ -21,16 +21,16 @@ const LEAST: u32 = 7;
 /// How long a tick is, in pixels.
 const TICK: u32 = 6;
 
-/// Successive attempts that fall in one column.
+/// Successive attempts whose steps are in one column.
 #[derive(Clone, Copy)]
 pub struct ColumnAttempts<'r, 'a> {
     pub column: u32,
     pub first: &'r AttemptMade<'a>,
     pub last: &'r AttemptMade<'a>,
     count: u32,
-    /// How many of them failed.
+    /// How many of these attempts failed.
     failed: u32,
-    /// The lowest place and the highest end of the attempts, in bytes.
+    /// The lowest place and the highest end of the attempts' cells, in bytes.
     low: u32,
     high: u32,
 }
@@ -72,7 +72,8 @@ pub fn put_failed(
     Ok(())
 }
 
-/// Adds an attempt to those of its column. If it begins another column, returns the attempts of the column before.
+/// Adds an attempt to `run`, the attempts of one column. If the attempt is in another column, `run` begins anew with it, and the attempts
+/// that `run` had are returned.
 #[inline(always)]
 pub fn extend<'r, 'a>(
     run: &mut Option<ColumnAttempts<'r, 'a>>,
@@ -102,8 +103,8 @@ pub fn extend<'r, 'a>(
     })
 }
 
-/// Draws a tick, and the number of its first attempt if there is room for it from `free` on. Returns from which x on there is room for the
-/// next number.
+/// Draws a tick. If there is room at `free` or to the right, also writes the number of the tick's first attempt. Returns the x from which
+/// on there is room for the next number.
 fn put_tick(
     drawing: &mut Drawing<'_>,
     run: &ColumnAttempts<'_, '_>,
@@ -125,7 +126,7 @@ fn put_tick(
     Ok(x.saturating_add(half).saturating_add(5))
 }
 
-/// Draws a mark: a box where the cell would have been, with a cross.
+/// Draws the mark of failed attempts: a box with a cross, at the place that the cell would have had.
 fn put_mark(drawing: &mut Drawing<'_>, run: &ColumnAttempts<'_, '_>) -> Drawn {
     let scale = drawing.scale;
     let x = scale.x(run.column);

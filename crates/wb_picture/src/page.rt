@@ -1,4 +1,4 @@
-//! What is around the panels of a picture: the beginning and the end of the file, the script's name, and the headings.
+//! The parts of a picture around its panels: the beginning and the end of the file, the script's name, and the headings.
 
 use crate::colours::put_style;
 use crate::drawing::{Drawing, Drawn};
@@ -12,7 +12,7 @@ use wb_history::{AttemptMade, WatchedRun};
 /// The most attempts that a heading names.
 const MOST_NAMED: usize = 4;
 
-/// Writes the beginning of the file. The picture is as wide as the window that it is in.
+/// Writes the beginning of the file. The picture is as wide as the window that shows it.
 pub fn open_page(drawing: &mut Drawing<'_>, width: u32, height: u32, runs: ShownRuns<'_>) -> Drawn {
     write!(
         drawing.text,
@@ -66,7 +66,7 @@ pub fn put_heading_text(drawing: &mut Drawing<'_>, run: &WatchedRun<'_>, x: u32,
     close_text(drawing)
 }
 
-/// Writes the heading of a panel that shows the end of a run once more. `attempts` are the attempts in it.
+/// Writes the heading of a panel that shows the end of a run once more. `attempts` are the attempts that this panel shows.
 pub fn put_end_heading(
     drawing: &mut Drawing<'_>,
     attempts: &[AttemptMade<'_>],
@@ -111,7 +111,7 @@ fn put_rule(drawing: &mut Drawing<'_>, rule: &Rule) -> Drawn {
     }
 }
 
-/// Says that a run is the one in which these attempts fail, of which the first few are named.
+/// Says that the attempts with these numbers fail in a run. Only the first few numbers are written.
 fn put_failures(drawing: &mut Drawing<'_>, numbers: &[u32]) -> Drawn {
     let is_one = numbers.len() == 1;
     drawing.text.push_str(if is_one {

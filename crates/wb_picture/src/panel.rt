@@ -1,4 +1,4 @@
-//! A panel of a picture: one run or its end, with its frame, its cells, and what is around the frame.
+//! A panel of a picture: one run or the end of a run, with its frame, its cells, and the things around the frame.
 
 use crate::axes::{put_frame, put_gaps};
 use crate::bands::{BAND, put_band};
@@ -23,7 +23,7 @@ pub const ABOVE: u32 = 54;
 /// The distance from a frame's lower edge to the first band, in pixels.
 const BELOW: u32 = 26;
 
-/// The distance from the top of a band to the top of the next, in pixels.
+/// The distance from the top of a band to the top of the next band, in pixels.
 const BAND_STEP: u32 = BAND + 5;
 
 /// The distance from a frame's lower edge to the end of its panel, in pixels.
@@ -33,7 +33,7 @@ pub const UNDER: u32 = BELOW + 3 * BAND_STEP + 14;
 #[derive(Clone, Copy)]
 pub enum Table<'a> {
     Nothing,
-    /// What shorter heaps refuse first.
+    /// Which attempts shorter heaps refuse first.
     Refusals,
     /// How runs end in heaps of every length.
     Lengths(&'a [LengthRange]),
@@ -58,23 +58,23 @@ impl Depths {
     }
 }
 
-/// A run, or the end of one, and where it is drawn.
+/// A run or the end of a run, and the scale at which it is drawn.
 #[derive(Clone, Copy)]
 pub struct Panel<'a> {
     pub run: &'a WatchedRun<'a>,
     pub scale: Scale,
     pub depths: Depths,
-    /// The attempts that are drawn: all of the run, or its last ones.
+    /// The attempts that are drawn: all attempts of the run, or only the run's last attempts.
     pub attempts: &'a [AttemptMade<'a>],
     /// The table at the side of the panel.
     pub table: Table<'a>,
     /// How many rectangles of cells are drawn at most.
     pub most_cells: usize,
-    /// The first attempt that fails in the lower of two runs by that run's rule; `None` if there is none.
+    /// The first attempt that the lower run's rule makes fail, if the picture shows two runs; `None` if there is no such attempt.
     pub failing: Option<AttemptMade<'a>>,
 }
 
-/// Draws a panel without its heading. Leaks are drawn after all lines, and what is written on cells last, so that nothing covers it.
+/// Draws a panel without its heading. Leaks are drawn after all lines, and the texts on cells last, so that nothing covers these texts.
 pub fn put_panel(drawing: &mut Drawing<'_>, panel: &Panel<'_>) -> Drawn {
     drawing.scale = panel.scale;
     let parts = panel.run.history.course.parts();
@@ -111,7 +111,7 @@ fn put_omission(drawing: &mut Drawing<'_>) -> Drawn {
     )
 }
 
-/// Draws what is over the cells: lengths, attempts, and how the run ended. Also draws the table at the side.
+/// Draws the things over the cells (lengths, attempts, and how the run ended), and the table at the side.
 fn put_lines(drawing: &mut Drawing<'_>, panel: &Panel<'_>, labels: &[LeakLabel]) -> Drawn {
     let scale = drawing.scale;
     put_lengths(drawing, panel.run)?;
@@ -127,7 +127,7 @@ fn put_lines(drawing: &mut Drawing<'_>, panel: &Panel<'_>, labels: &[LeakLabel])
     put_failing_step(drawing, panel)
 }
 
-/// Draws this panel's part of the line that runs through both panels, at the step in which the lower run begins to fail.
+/// Draws this panel's part of a line through both panels, at the step of the first attempt that the lower run's rule makes fail.
 fn put_failing_step(drawing: &mut Drawing<'_>, panel: &Panel<'_>) -> Drawn {
     let scale = drawing.scale;
     let Some(attempt) = panel.failing else {

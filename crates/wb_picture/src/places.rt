@@ -1,10 +1,10 @@
-//! How high places are in a frame. If nothing begins or ends over most of the heap, as within one large cell, the places there are drawn
-//! shorter, so that the other places have room.
+//! How high in a frame each place is drawn. If there is a long stretch of places at which nothing begins or ends, for example within one
+//! large cell, its places are drawn shorter. So the other places have room.
 
 /// The most folds of a frame.
 pub const MOST_FOLDS: usize = 3;
 
-/// The places from `from` to `until`, in bytes, which are drawn as high as `drawn` bytes are elsewhere.
+/// A fold: the places from `from` to before `until`, in bytes. These places are drawn only as high as `drawn` unfolded bytes.
 #[derive(Clone, Copy)]
 pub struct Fold {
     pub from: u32,
@@ -12,18 +12,18 @@ pub struct Fold {
     pub drawn: u32,
 }
 
-/// The places of a frame, from 0 at its lower edge.
+/// The places that a frame shows, from place 0 at its lower edge.
 #[derive(Clone, Copy)]
 pub struct Places {
-    /// The place at the upper edge, in bytes.
+    /// The place at the frame's upper edge, in bytes.
     pub reach: u32,
-    /// The folds, in order of place. Those that aren't used are empty.
+    /// The folds, in order of place. Unused folds are empty.
     folds: [Fold; MOST_FOLDS],
     is_folded: bool,
 }
 
 impl Fold {
-    /// A fold of no places.
+    /// A fold without places.
     pub fn empty() -> Fold {
         Fold {
             from: u32::MAX,
@@ -36,7 +36,7 @@ impl Fold {
         self.from >= self.until
     }
 
-    /// By how many bytes lower a place is drawn because of this fold.
+    /// How many bytes lower a place is drawn because of this fold.
     fn hidden_up_to(&self, place: u32) -> u32 {
         let over = place.min(self.until).saturating_sub(self.from);
         if over == 0 {
@@ -48,7 +48,7 @@ impl Fold {
 }
 
 impl Places {
-    /// Places up to this one, none of them drawn shorter.
+    /// The places up to `reach`, without folds.
     pub fn up_to(reach: u32) -> Places {
         Places {
             reach,
@@ -57,7 +57,7 @@ impl Places {
         }
     }
 
-    /// The same places with these folds, which are in order of place and don't overlap.
+    /// Returns these places with folds, which must be in order of place and must not overlap.
     pub fn with_folds(self, folds: [Fold; MOST_FOLDS]) -> Places {
         Places {
             folds,
@@ -66,7 +66,7 @@ impl Places {
         }
     }
 
-    /// The same places, and some more above them, so that the highest isn't at the upper edge.
+    /// Returns these places and some more above them, so that the highest of these places is below the frame's upper edge.
     pub fn with_margin(self) -> Places {
         let margin = self.drawn_up_to(self.reach) / 16;
         Places {
@@ -75,7 +75,7 @@ impl Places {
         }
     }
 
-    /// The folds, of which some may be empty.
+    /// The folds. Some folds may be empty.
     pub fn folds(&self) -> &[Fold] {
         &self.folds
     }
@@ -84,7 +84,7 @@ impl Places {
         self.is_folded
     }
 
-    /// The height at which a place is drawn, in bytes: the place itself, less what the folds below it hide.
+    /// The height at which a place is drawn, in bytes: the place itself, less the bytes that the folds below it hide.
     pub fn drawn_up_to(&self, place: u32) -> u32 {
         if !self.is_folded {
             return place;
@@ -96,7 +96,7 @@ impl Places {
         place.saturating_sub(hidden)
     }
 
-    /// The end of the fold that a place is inside, or the place itself if it is inside none.
+    /// The end of the fold around a place; the place itself if no fold is around it.
     pub fn end_of_fold(&self, place: u32) -> u32 {
         for fold in self.folds() {
             if fold.from < place && place < fold.until {
@@ -107,14 +107,14 @@ impl Places {
     }
 }
 
-/// The share of `length` that `part` is of `whole`: `part * length / whole`, rounded down; 0 if `whole` is 0.
+/// The share of `length` that `part` has of `whole`: `part * length / whole`, rounded down; 0 if `whole` is 0.
 pub fn share_of(part: u32, whole: u32, length: u32) -> u32 {
     let product = u64::from(part).saturating_mul(u64::from(length));
     let quotient = product.checked_div(u64::from(whole)).unwrap_or(0);
     u32::try_from(quotient).unwrap_or(u32::MAX)
 }
 
-/// The least number of 1, 2, 5, 10, 20, 50 and so on with which `most` steps reach `length`.
+/// The least of the numbers 1, 2, 5, 10, 20, 50 and so on that reaches at least `length` when multiplied by `most`.
 pub fn round_step(length: u32, most: u32) -> u32 {
     let mut ten = 1u32;
     for _ in 0..9 {

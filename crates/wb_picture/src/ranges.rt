@@ -1,4 +1,5 @@
-//! A table at the side of a panel: how runs end in heaps of every length. Each range of lengths is drawn beside the same range of places.
+//! A table at the side of a panel: how runs end in heaps of every length. Each range of lengths is drawn at the height of the places with
+//! the same numbers.
 
 use crate::drawing::{Drawing, Drawn};
 use crate::endings::put_run_end;
@@ -12,15 +13,15 @@ use wb_runs::lengths::LengthRange;
 struct Stretch {
     from: u32,
     until: u32,
-    /// The first of these ranges, and how many there are.
+    /// The first range of the stretch (`first`), and the number of its ranges (`count`).
     first: LengthRange,
     count: u32,
-    /// Whether the runs of at least one of these ranges leak or panic.
+    /// Whether the runs of at least one range of the stretch leak or panic.
     is_bad: bool,
 }
 
 impl Stretch {
-    /// This stretch with the next range added, which ends before `until`.
+    /// Returns this stretch with the next range added; that range ends before `until`.
     fn with(self, range: &LengthRange, until: u32) -> Stretch {
         Stretch {
             until,
@@ -44,7 +45,7 @@ impl Stretch {
     }
 }
 
-/// Draws the table of these ranges, as far as the frame shows their lengths. Ranges too low to be seen are drawn as one.
+/// Draws the table of the ranges whose lengths the frame shows. Successive ranges that are too low to be seen are drawn as one.
 pub fn put_ranges(drawing: &mut Drawing<'_>, ranges: &[LengthRange]) -> Drawn {
     let scale = drawing.scale;
     put_head(drawing, "how runs end in other heaps")?;
@@ -72,7 +73,7 @@ pub fn put_ranges(drawing: &mut Drawing<'_>, ranges: &[LengthRange]) -> Drawn {
     }
 }
 
-/// The length before which the range with this index ends.
+/// The end of the range with this index: the first length after the range.
 fn end_of_range(ranges: &[LengthRange], index: usize) -> u32 {
     match ranges.get(index.saturating_add(1)) {
         Some(next) => next.from,
@@ -80,7 +81,7 @@ fn end_of_range(ranges: &[LengthRange], index: usize) -> u32 {
     }
 }
 
-/// The open stretch with a range added, or the stretch of this range alone if none is open.
+/// The stretch `open` with a range added. If `open` is `None`, the result is a new stretch of this range alone.
 fn stretch_with(open: Option<Stretch>, range: &LengthRange, until: u32) -> Stretch {
     match open {
         Some(stretch) => stretch.with(range, until),
@@ -107,7 +108,8 @@ fn put_stretch(drawing: &mut Drawing<'_>, stretch: &Stretch, index: u32) -> Draw
     close_text(drawing)
 }
 
-/// Writes from which length on runs end in which way; of several ranges, only how many there are, and whether some are bad.
+/// Writes the first length of a stretch. If the stretch is one range, also writes how runs end in this range. If it is several ranges, also
+/// writes how many ranges there are, and whether some are bad.
 fn put_stretch_title(drawing: &mut Drawing<'_>, stretch: &Stretch) -> Drawn {
     let (from, count) = (stretch.from, stretch.count);
     write!(drawing.text, "from {from} ")?;

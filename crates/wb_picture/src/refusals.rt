@@ -1,4 +1,5 @@
-//! A table at the side of a panel: what shorter heaps refuse first. Each range of lengths is drawn beside the same range of places.
+//! A table at the side of a panel: which attempts shorter heaps refuse first. Each range of lengths is drawn at the height of the places
+//! with the same numbers.
 
 use crate::drawing::{Drawing, Drawn};
 use crate::escape::put_line;
@@ -18,8 +19,8 @@ pub const LEAST: u32 = 2;
 /// The least height of a range that has a text, in pixels.
 pub const LEAST_WITH_TEXT: u32 = 12;
 
-/// The lengths from `from` to before `until`, in bytes, and the first and the last of the attempts that heaps of these lengths refuse
-/// first.
+/// A range of lengths from `from` to before `until`, in bytes. The shortest of these heaps refuse the attempt `first` before any other
+/// attempt, and the longest of them refuse the attempt `last` before any other attempt.
 #[derive(Clone, Copy)]
 struct Range<'a> {
     from: u32,
@@ -28,7 +29,7 @@ struct Range<'a> {
     last: AttemptMade<'a>,
 }
 
-/// Draws the table of a run by its rises. Ranges too low to be seen are drawn as one.
+/// Draws the table of a run from the run's rises. Successive ranges that are too low to be seen are drawn as one.
 pub fn put_refusals(drawing: &mut Drawing<'_>, rises: &[AttemptMade<'_>]) -> Drawn {
     let scale = drawing.scale;
     put_head(drawing, "what shorter heaps refuse first")?;
@@ -79,7 +80,7 @@ fn other(class: &'static str) -> &'static str {
     if class == "cut1" { "cut2" } else { "cut1" }
 }
 
-/// The open range extended by a rise, or the range of this rise alone if none is open.
+/// The range `open` extended by a rise. If `open` is `None`, the result is a new range of this rise alone.
 fn range_with<'a>(open: Option<Range<'a>>, from: u32, rise: &AttemptMade<'a>) -> Range<'a> {
     match open {
         Some(range) => Range {

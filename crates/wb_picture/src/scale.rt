@@ -1,4 +1,4 @@
-//! Where steps and places are in a panel. What is drawn at them is elsewhere.
+//! The scale of a panel: the position of each step and each place in the panel's frame. Other modules draw the things at these positions.
 
 use crate::columns::Columns;
 use crate::places::{Places, share_of};
@@ -21,7 +21,7 @@ pub struct Area {
     pub bottom: u32,
 }
 
-/// Where steps and places are in a frame.
+/// The position of each step and each place in a frame.
 #[derive(Clone, Copy)]
 pub struct Scale {
     pub frame: Frame,
@@ -42,17 +42,17 @@ impl Frame {
 }
 
 impl Area {
-    /// A vertical line.
+    /// The area of a vertical line.
     pub fn upright(x: u32, top: u32, bottom: u32) -> Area {
         Area::between(x, top, x, bottom)
     }
 
-    /// A horizontal line.
+    /// The area of a horizontal line.
     pub fn level(left: u32, right: u32, y: u32) -> Area {
         Area::between(left, y, right, y)
     }
 
-    /// The area between these edges.
+    /// The area with these edges.
     pub fn between(left: u32, top: u32, right: u32, bottom: u32) -> Area {
         Area {
             left,
@@ -70,7 +70,7 @@ impl Area {
         self.bottom.saturating_sub(self.top)
     }
 
-    /// Whether the areas overlap.
+    /// Whether this area and the other area overlap.
     pub fn meets(&self, other: &Area) -> bool {
         self.left < other.right
             && other.left < self.right
@@ -78,17 +78,17 @@ impl Area {
             && other.top < self.bottom
     }
 
-    /// The middle of its height.
+    /// The y of the area's middle.
     pub fn middle(&self) -> u32 {
         self.top.saturating_add(self.height() / 2)
     }
 
-    /// The middle of its width.
+    /// The x of the area's middle.
     pub fn centre(&self) -> u32 {
         self.left.saturating_add(self.width() / 2)
     }
 
-    /// The same area, at least `width` pixels wide and `height` high, so that it can be seen.
+    /// Returns this area, made at least `width` pixels wide and `height` pixels high, so that it can be seen.
     pub fn at_least(self, width: u32, height: u32) -> Area {
         let missing = height.saturating_sub(self.height());
         Area {
@@ -122,7 +122,7 @@ impl Scale {
         self.end_of_step(self.last)
     }
 
-    /// The y of a place; the upper edge of the frame for a place past the reach.
+    /// The y of a place. For a place past the frame's reach, this is the frame's upper edge.
     pub fn y(&self, place: u32) -> u32 {
         let places = &self.places;
         let drawn = places.drawn_up_to(place.min(places.reach));
@@ -136,7 +136,7 @@ impl Scale {
         place <= self.places.reach
     }
 
-    /// The area of what is at the places from `place` to `top`, from the step `from` to before the step `until`.
+    /// The area of the places from `place` to `top` during the steps from `from` to before `until`.
     pub fn area(&self, from: u32, until: u32, place: u32, top: u32) -> Area {
         Area {
             left: self.x_of_step(from),

@@ -1,4 +1,4 @@
-//! A picture of one run or two as a whole: what its panels share, and where each of them is.
+//! A whole picture of one run or two: the things that its panels share, and the position of each panel.
 
 use crate::columns::Columns;
 use crate::drawing::{Drawing, Drawn};
@@ -35,7 +35,7 @@ const HEIGHT: u32 = 340;
 /// The height of a frame in a picture of two runs, in pixels.
 const HEIGHT_OF_TWO: u32 = 260;
 
-/// The least place that the upper edge of a frame shows, in bytes.
+/// The least place at which the upper edge of a frame may be, in bytes.
 const LEAST_SHOWN: u32 = 16;
 
 /// The most columns of a picture.
@@ -44,22 +44,22 @@ const MOST_COLUMNS: u32 = 2000;
 /// The most rectangles of cells in a picture.
 const MOST_CELLS: usize = 3000;
 
-/// The end of a run that is drawn once more: the first step that is drawn, and the places that its frame shows.
+/// The end of a run, as it is drawn once more: the first step that is drawn, and the places that the frame shows.
 #[derive(Clone, Copy)]
 struct EndOfRun {
     first: u32,
     places: Places,
 }
 
-/// What all panels of a picture share.
+/// The values that all panels of a picture share.
 #[derive(Clone, Copy)]
 struct Sheet<'a> {
     columns: Columns,
     places: Places,
     depths: Depths,
-    /// The first attempt that fails in the lower of two runs by that run's rule; `None` if there is none.
+    /// The first attempt that the lower run's rule makes fail, if the picture shows two runs; `None` if there is no such attempt.
     failing: Option<AttemptMade<'a>>,
-    /// The end of the lowest run; `None` if it isn't drawn once more.
+    /// The end of the lowest run; `None` if that end isn't drawn once more.
     end: Option<EndOfRun>,
     width: u32,
     height: u32,
@@ -105,7 +105,7 @@ fn put_page<'a>(
     close_page(drawing)
 }
 
-/// The width of a table, in pixels.
+/// The width of this table, in pixels.
 fn width_of(table: Table<'_>) -> u32 {
     match table {
         Table::Nothing => 0,
@@ -180,7 +180,7 @@ fn attempts_from<'a>(run: &'a WatchedRun<'a>, first: u32) -> &'a [AttemptMade<'a
     attempts.get(before..).unwrap_or(attempts)
 }
 
-/// The first attempt that fails by the run's own rule; `None` if there is none.
+/// The first attempt that the run's own rule makes fail; `None` if there is no such attempt.
 fn first_failing<'a>(run: &'a WatchedRun<'a>) -> Option<AttemptMade<'a>> {
     let attempts = &run.history.attempts;
     match &run.parameters.rule {
@@ -192,7 +192,7 @@ fn first_failing<'a>(run: &'a WatchedRun<'a>) -> Option<AttemptMade<'a>> {
     }
 }
 
-/// What the panels of these runs share: their columns, their places, and their size.
+/// The values that the panels of these runs share, such as their columns, their places and their size.
 fn sheet_for<'a>(alloc: Global, runs: ShownRuns<'a>) -> Result<Sheet<'a>, AllocError> {
     let (columns, depths, failing, height, most_cells) = match runs.second {
         None => (
@@ -228,7 +228,7 @@ fn columns_of_two(first: &WatchedRun<'_>, second: &WatchedRun<'_>) -> Columns {
     Columns::between(0, last, MOST_COLUMNS / 2)
 }
 
-/// The end of the lowest of these runs; `None` if it isn't drawn once more.
+/// The end of the lowest of these runs; `None` if that end isn't drawn once more.
 fn end_of_last(alloc: Global, runs: ShownRuns<'_>) -> Result<Option<EndOfRun>, AllocError> {
     let run = runs.last();
     let Some(first) = first_of_end(run) else {
@@ -247,8 +247,8 @@ fn depths_of(run: &WatchedRun<'_>) -> Depths {
     }
 }
 
-/// The places that the frames of these runs show. Places between which nothing begins or ends, from the step `first` on, are drawn shorter
-/// if they would leave little room for the others.
+/// The places that the frames of these runs show. A stretch of places is drawn shorter if nothing begins or ends in it from the step
+/// `first` on and it would leave little room for other places.
 fn places_of(alloc: Global, runs: ShownRuns<'_>, first: u32) -> Result<Places, AllocError> {
     let highest = highest_of(runs);
     let mut edges = Edges::up_to(alloc, highest)?;
@@ -268,8 +268,9 @@ fn highest_of(runs: ShownRuns<'_>) -> u32 {
     }
 }
 
-/// Adds the edges of a run's cells that begin or end from the step `first` on, those of the attempts that fail from that step on, and the
-/// run's limit.
+/// Adds the edges of a run. If a part of a cell's life begins or ends in the step `first` or later, its lowest and its highest place are
+/// edges. If an attempt fails in the step `first` or later, the lowest and the highest place of its cell are edges. The run's limit is an
+/// edge too.
 fn add_edges(edges: &mut Edges, run: &WatchedRun<'_>, first: u32) {
     for part in run.history.course.parts() {
         if part.from >= first || (first <= part.gone && part.gone <= run.history.steps()) {
@@ -288,8 +289,9 @@ fn add_edges(edges: &mut Edges, run: &WatchedRun<'_>, first: u32) {
     }
 }
 
-/// The highest place that a run's frame shows: the greatest end of a granted cell, or a failed attempt's end or the limit above it. These
-/// are left out, or cut off, where they are so high that little room would be left for the cells.
+/// The highest place that a run's frame shows: the greatest end of a granted cell, the greatest end of a failed attempt, or the limit,
+/// whichever is highest. The end of a failed attempt is cut off if it would leave little room for the cells. The limit is left out if it
+/// would leave little room for the cells.
 fn highest_shown(run: &WatchedRun<'_>) -> u32 {
     let attempts = run.history.attempts.kept_attempts();
     let longest = longest_end(attempts);
@@ -307,7 +309,7 @@ fn highest_shown(run: &WatchedRun<'_>) -> u32 {
 }
 
 impl<'a> Sheet<'a> {
-    /// The top of a panel, by its index.
+    /// The y of the top of the panel with this index.
     fn panel_top(&self, index: u32) -> u32 {
         let height = ABOVE.saturating_add(self.height).saturating_add(UNDER);
         TOP.saturating_add(height.saturating_mul(index))
@@ -350,7 +352,7 @@ impl<'a> Sheet<'a> {
     }
 }
 
-/// Says how many steps a column is, if it is more than one step.
+/// Says how many steps a column covers, if a column covers more than one step.
 fn put_note(drawing: &mut Drawing<'_>, sheet: &Sheet<'_>, y: u32) -> Drawn {
     if sheet.columns.steps == 1 {
         return Ok(());

@@ -1,8 +1,8 @@
-//! The runs that a picture shows: one, or two, one below the other.
+//! The runs that a picture shows: one run, or two runs below each other.
 
 use wb_history::WatchedRun;
 
-/// The runs of a picture, watched with all that a picture draws kept (`Keep::Drawn`).
+/// The runs of a picture. These runs were watched with `Keep::Drawn`, which keeps everything that a picture draws.
 #[derive(Clone, Copy)]
 pub struct ShownRuns<'a> {
     /// The only run, or the upper of two.
@@ -12,7 +12,7 @@ pub struct ShownRuns<'a> {
 }
 
 impl<'a> ShownRuns<'a> {
-    /// Only this run, without a second.
+    /// The runs of a picture that shows only this run.
     pub fn one(run: &'a WatchedRun<'a>) -> ShownRuns<'a> {
         ShownRuns {
             first: run,
@@ -20,12 +20,12 @@ impl<'a> ShownRuns<'a> {
         }
     }
 
-    /// Returns how many runs there are.
+    /// Returns how many runs the picture shows.
     pub fn count(self) -> u32 {
         if self.second.is_some() { 2 } else { 1 }
     }
 
-    /// Returns the lowest run.
+    /// Returns the lowest run of the picture.
     pub fn last(self) -> &'a WatchedRun<'a> {
         match self.second {
             Some(second) => second,

@@ -7,7 +7,7 @@ use crate::labels::{put_both, put_digits};
 use wb_heap_model::heap::{Answer, Attempt, Kind};
 use wb_history::{AttemptMade, Part, PartEnd};
 
-/// Says of a part of a cell's life which cell it is, when it was there, and which line made it.
+/// Says which cell a part of a cell's life belongs to, during which steps this part lasts, and which line made the cell.
 pub fn put_part_title(drawing: &mut Drawing<'_>, part: &Part) -> Drawn {
     if part.leaks {
         drawing.text.push_str("leak: ")?;
@@ -62,7 +62,7 @@ fn put_end(drawing: &mut Drawing<'_>, part: &Part) -> Drawn {
     put_both(drawing, deed, part.gone)
 }
 
-/// Says how many parts are drawn as one, and which they are.
+/// Says how many parts a group's rectangle shows, and which parts.
 pub fn put_group_title(
     drawing: &mut Drawing<'_>,
     group: &Group,
@@ -83,7 +83,7 @@ pub fn put_group_title(
     put_line(drawing, first.line)
 }
 
-/// Says what came of an attempt.
+/// Says whether an attempt was granted or failed.
 pub fn put_attempt_title(drawing: &mut Drawing<'_>, attempt: &AttemptMade<'_>) -> Drawn {
     let Attempt {
         number,

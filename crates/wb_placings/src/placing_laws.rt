@@ -1,5 +1,5 @@
-//! Laws of runs in heaps that choose the places of cells in any way. A placing says of each attempt where its cell goes, and whether a cell
-//! that grows stays. Each law is the contract of a function that does nothing, so that the gate proves it.
+//! Laws of runs in heaps that choose the places of cells in any way. For each attempt, a placing says where its cell goes, and whether a
+//! cell that grows stays. Each law is the contract of a function that does nothing, so that checking the function proves the law.
 
 ghost use Rattle.std.specs.Prelude.{◌≡◌, ◌≢◌, ℕ, List, true};
 ghost use Rattle.wb_heap_model.specs.Placement.{placement_of, Placement};
@@ -12,7 +12,7 @@ ghost use Rattle.wb_meaning.specs.declared.run.Why.TheVariants.{Ceiling};
 ghost use Rattle.wb_tree.specs.declared.script.Script.{Script};
 ghost use Rattle.wb_placings.specs.PlacedRuns.{placed_run, IsSameButPlaces};
 
-/// If the ceiling doesn't cut it, the run in a heap of any shape is, except for notes, the placed run with this heap's own choice of
+/// If the ceiling doesn't cut a run in a heap of any shape, this run is, except for notes, the placed run with the heap's own choice of
 /// places.
 pub fn runs_are_placed_by_their_heap()
     ensures same { (script : Script) (budget : ℕ) (shape : Shape) (numbers : List ℕ) →
@@ -21,9 +21,10 @@ pub fn runs_are_placed_by_their_heap()
         (placed_run script budget numbers (placement_of shape)) }
 {}
 
-/// Let a run be neither bad nor cut in a heap where each growing cell moves. Then it is the same but for places wherever cells lie, and whichever
-/// growing cells stay (`same`). So if the runs of all sets of failures are fine in that heap, they are fine by every placing (`every`). They are
-/// fine, too, in a heap of any other shape, such as one where cells stay if they can, provided that the ceiling cuts none of them there (`in_place`).
+/// Let a run be neither bad nor cut in a heap where each growing cell moves. Then, except for places, the run is the same wherever cells
+/// lie, and whichever growing cells stay (`same`). So if the runs of all sets of failures are fine in that heap, these runs are fine under
+/// every placing (`every`). If the ceiling cuts no run in a heap of any other shape, the runs are also fine in that heap (`in_place`). An
+/// example is a heap where cells stay if they can.
 pub fn moving_runs_stand_for_every_placing()
     ensures same { (script : Script) (budget : ℕ) (shape : Shape) (numbers : List ℕ)
         (placement : Placement) →

@@ -1,2 +1,3 @@
-//! Runs that are the same except for allocation numbers: what such states and runs have in common, and lemmas of both.
+//! States and runs that differ only in allocation numbers: what such states have in common, what such runs have in common, and lemmas about
+//! such states and runs.
 #![tactic(auto)]

@@ -1,4 +1,4 @@
-//! The law that there are reports. It is the contract of a function that does nothing, so that the gate proves it.
+//! The law that there are reports. The law is the contract of a function that does nothing, so that checking the function proves the law.
 
 ghost use Rattle.std.specs.Prelude.{ℕ, List};
 ghost use Rattle.wb_command_line.specs.declared.command.Command.{Command};

@@ -1,13 +1,13 @@
-//! Why the heap refuses a call.
+//! The errors that calls of the heap return.
 
 use wb_basics::memory::NoMemory;
 
-/// Why a call of the heap was refused. A refused call leaves the heap as it was.
+/// Why a call of the heap returned an error. After an error the heap is as it was.
 #[derive(Clone, Copy, Debug, PartialEq, Eq)]
 pub enum HeapFault {
     /// The workbench's own memory ran out. A full simulated heap never causes this.
     NoMemory = 1,
-    /// The shape has a least length or a growth step that no heap may have.
+    /// The shape has a least length or a growth step that isn't allowed.
     BadShape = 2,
     /// The cell would end past the limit.
     TooShort = 3,

@@ -1,5 +1,5 @@
-//! The heap, its grants and releases, and its readers. Reallocation is in `realloc`, the words of payloads in `payloads`, the cells in the
-//! crate `wb_cells`, and the committed length and the longest free run in `space`.
+//! The heap, with its functions that grant, release and read cells. Reallocation is in `realloc`, the words of payloads are in `payloads`,
+//! and the committed length and the longest free run are in `space`. The cells are in the crate `wb_cells`.
 
 ghost use Rattle.std.specs.Prelude.{◌≡◌, ◌≢◌, ◌+◌, ◌*◌, ◌<◌, ◌≤◌, ◌↔◌, false, length, take, sum, All, IfOk, IfErr};
 ghost use Rattle.std.specs.Prelude.{IfSome, OnOk, OnErr, Some, None, option_map};
@@ -20,11 +20,12 @@ use wb_basics::memory::NoMemory;
 use wb_cells::Cells;
 use wb_heap_model::heap::{Header, Kind, Ptr, Shape};
 
-/// A simulated heap: live cells with their payloads, and a limit that none of them passes.
+/// A simulated heap: live cells with their payloads, and a limit past which no cell ends.
 ///
 /// Places, lengths, the limit and the committed length are in bytes, and places count from the start of the chunk. The committed length is
-/// at first the least under the limit and the shape; it grows with the cells, and only `compress` lessens it. The workbench holds memory
-/// for the greatest committed length so far. A payload is zeroed when its cell is granted.
+/// at first the shape's least length or the limit rounded down to a multiple of 16, whichever is less. The committed length grows with the
+/// cells, and only `compress` reduces it. The workbench holds memory for the greatest committed length so far. A payload is zeroed when its
+/// cell is granted.
 #[derive(Drop)]
 pub struct Heap {
     pub(crate) cells: Cells,
@@ -33,7 +34,7 @@ pub struct Heap {
     pub(crate) committed: u32,
     /// How many cells are live.
     pub(crate) count: u32,
-    /// The sum of their cell lengths, in bytes.
+    /// The sum of the live cells' lengths, in bytes.
     pub(crate) total: u32,
 }
 
@@ -50,10 +51,10 @@ impl Model for Heap {
 }
 
 impl Heap {
-    /// Returns a heap with no cell and the least committed length, for which it takes the workbench's memory.
+    /// Returns a heap with no cell and the least committed length. The call takes the workbench's memory for this length.
     ///
-    /// The limit is in bytes, and need not be a multiple of 16. `BadShape` exactly if no heap may have the shape. Otherwise `NoMemory` if
-    /// the workbench's memory runs out, which can't happen if the committed length is 0.
+    /// The limit is in bytes, and need not be a multiple of 16. Returns `BadShape` exactly if the shape isn't allowed; otherwise `NoMemory`
+    /// if the workbench's memory runs out. `NoMemory` can't happen if the committed length is 0.
     pub fn new(alloc: Global, limit: u32, shape: Shape) -> Result<Heap, HeapFault>
         requires { limit ≤ CEILING }
         ensures ok { IfOk result (λ heap. heap ≡ empty_heap limit shape) }
@@ -79,17 +80,17 @@ impl Heap {
         })
     }
 
-    /// Returns a copy of the heap, in memory of its own: what is done to one heap changes nothing in the other. `NoMemory` if the
-    /// workbench's memory runs out.
+    /// Returns a copy of the heap, in newly allocated memory. A later change to one of the two heaps doesn't change the other heap. Returns
+    /// `NoMemory` if the workbench's memory runs out.
     pub fn try_copy(&self) -> Result<Heap, NoMemory>
         ensures { IfOk result (λ copy. copy ≡ self.now) }
     {
         self.try_copy_over(None)
     }
 
-    /// Returns a copy of the heap. If there is a `spare` heap, the copy takes over its memory, which grows if need be, and the spare's
-    /// cells are lost; if not, the copy has memory of its own. What is done to one heap changes nothing in the other. `NoMemory` if the
-    /// workbench's memory runs out.
+    /// Returns a copy of the heap. If there is a `spare` heap, the copy takes over the spare's memory, which grows if necessary, and the
+    /// spare's cells are lost. If there is no `spare`, the copy has newly allocated memory. A later change to the copy or to the original
+    /// doesn't change the other. Returns `NoMemory` if the workbench's memory runs out.
     pub fn try_copy_over(&self, spare: Option<Heap>) -> Result<Heap, NoMemory>
         ensures { IfOk result (λ copy. copy ≡ self.now) }
     {
@@ -107,10 +108,10 @@ impl Heap {
         })
     }
 
-    /// Returns the place where a cell of this length goes: the lowest place at which its bytes meet no live cell.
+    /// Returns the place for a cell of this length: the lowest place at which the cell's bytes overlap no live cell.
     ///
-    /// The length is the cell length in bytes, header included. The limit isn't checked: all bytes above the last cell count as free,
-    /// without end. The place plus any cell length stays below 2^32.
+    /// The length is the cell length in bytes, including the header. The function doesn't check the limit: all bytes above the last cell
+    /// count as free. The place plus any cell length is below 2^32.
     pub fn place_for(&self, length: u32) -> u32
         requires { IsCellLength length }
         ensures place { result ≡ place_in self.now length }
@@ -121,12 +122,12 @@ impl Heap {
         self.cells.first_fit(length)
     }
 
-    /// Grants a cell at the place that `place_for` returns, with zeros for its payload.
+    /// Grants a cell at the place that `place_for` returns. The payload of the cell is all zeros.
     ///
-    /// `length` is the cell length in bytes, `number` the attempt's number, from 1 on, and `level` the level of heap marks. `TooShort`
-    /// exactly if the cell would end past the limit. Otherwise `NoMemory` if the workbench's memory runs out, which can't happen if the new
-    /// committed length is at most `held`. A refused call leaves the heap as it was. Source: Symbian OS v9 SDK reference, RHeap, for a
-    /// grant that is refused.
+    /// `length` is the cell length in bytes, `number` is the attempt's number, from 1 on, and `level` is the level of heap marks. Returns
+    /// `TooShort` exactly if the cell would end past the limit; otherwise `NoMemory` if the workbench's memory runs out. `NoMemory` can't
+    /// happen if the new committed length is at most the length that `held` returns. After an error the heap is as it was. Source: Symbian
+    /// OS v9 SDK reference, RHeap, for a refused grant.
     pub fn alloc(
         &mut self,
         length: u32,
@@ -153,8 +154,8 @@ impl Heap {
         self.alloc_at(place, length, kind, number, level)
     }
 
-    /// Grants a cell as `alloc` does. `place` must be the place that `place_for` returns, so the search for it isn't repeated. The errors
-    /// are those of `alloc`; the heap is then as it was.
+    /// Grants a cell as `alloc` does. `place` must be the place that `place_for` returns, so this function doesn't search for the place
+    /// again. `alloc_at` returns the same errors as `alloc`; an error leaves the heap as it was.
     pub fn alloc_at(
         &mut self,
         place: u32,
@@ -192,12 +193,12 @@ impl Heap {
         Ok(Ptr { place, number })
     }
 
-    /// Releases the cell that the pointer names. Its bytes are free for later cells, in one run with the free bytes on both sides of it.
-    /// The committed length stays.
+    /// Releases the cell that the pointer names. The cell's bytes become free for later cells, in one run with the free bytes on both sides
+    /// of the cell. The committed length doesn't change.
     ///
-    /// A pointer names a cell by its place and its number, so a stale pointer stays bad even if a new cell begins at its place, whatever
-    /// words a payload holds. `BadCell` exactly if the pointer names no live cell; the heap is then as it was. Source: Symbian OS v9 SDK
-    /// reference, RHeap.
+    /// A pointer names a cell by place and number. So a stale pointer stays invalid even if a new cell begins at the same place, whatever
+    /// words a payload holds. Returns `BadCell` exactly if the pointer names no live cell; the heap is then as it was. Source: Symbian OS
+    /// v9 SDK reference, RHeap.
     pub fn free(&mut self, ptr: Ptr) -> Result<(), HeapFault>
         ensures freed { OnOk result (self.new ≡ heap_without self.old ptr) }
 
@@ -214,7 +215,8 @@ impl Heap {
         Ok(())
     }
 
-    /// Releases a cell as `free` does. `cell` must be the header that `header` returns for the pointer, so it isn't read again.
+    /// Releases a cell as `free` does. `cell` must be the header that the function `header` returns for the pointer, so this function
+    /// doesn't read the header again.
     pub fn free_cell(&mut self, ptr: Ptr, cell: Header)
         requires { option_map (λ c. c.head) (cell_at ptr self.old.row) ≡ Some cell }
         ensures freed { self.new ≡ heap_without self.old ptr }
@@ -225,8 +227,8 @@ impl Heap {
         self.total -= cell.length;
     }
 
-    /// Returns the header of the cell that the pointer names; `None` exactly if it names no live cell. The cell's payload has one word for
-    /// each four bytes of its usable length.
+    /// Returns the header of the cell that the pointer names; `None` exactly if the pointer names no live cell. The cell's payload has one
+    /// word for each four bytes of the cell's usable length.
     pub fn header(&self, ptr: Ptr) -> Option<Header>
         ensures header { result ≡ option_map (λ c. c.head) (cell_at ptr self.now.row) }
         ensures live { IfSome result (IsLiveBelow self.now.limit) }
@@ -237,9 +239,9 @@ impl Heap {
         self.cells.header(ptr)
     }
 
-    /// Returns the first live cell that begins at this place, in bytes, or above it; `None` if there is none.
+    /// Returns the header of the first live cell that begins at place `from`, in bytes, or above; `None` if there is no such cell.
     ///
-    /// Called with place 0, and then with the end of each cell returned, it gives every live cell in order of place.
+    /// To get every live cell in order of place, call this function with place 0, and then with the end of each cell that it returns.
     pub fn next_live(&self, from: u32) -> Option<Header>
         ensures first { result ≡ next_live_of from (headers self.now.row) }
         ensures live { IfSome result (IsLiveBelow self.now.limit) }
@@ -248,9 +250,9 @@ impl Heap {
         self.cells.next_live(from)
     }
 
-    /// Gives up committed length above the last live cell, down to whole growth steps or to the least committed length, and returns by how
-    /// many bytes it shrank, 0 if it stays. The workbench keeps the memory that it holds. Source: Symbian OS v9 SDK reference, RHeap, and
-    /// this project's profile for the lengths.
+    /// Reduces the committed length to the end of the last live cell, rounded up to whole growth steps, or to the least committed length if
+    /// that is more. Returns by how many bytes the committed length shrank; 0 if it didn't change. The workbench keeps the memory that it
+    /// holds. Source: Symbian OS v9 SDK reference, RHeap; this project's profile for the lengths.
     pub fn compress(&mut self) -> u32
         ensures reclaimed { result ≡ reclaimed_from self.old }
         ensures fallen { self.new ≡ heap_compressed self.old }
@@ -267,8 +269,8 @@ impl Heap {
         reclaimed
     }
 
-    /// Returns how many bytes below the committed length are free, and how many the longest free run has. The header of a cell that goes
-    /// there takes 16 of them. Source: Symbian OS v9 SDK reference, RHeap.
+    /// Returns how many bytes below the committed length are free, and how many bytes the longest free run has. A new cell in a free run
+    /// uses 16 of the run's bytes for its header. Source: Symbian OS v9 SDK reference, RHeap.
     pub fn available(&self) -> (u32, u32)
         ensures total { result.0 ≡ sum (runs_in self.now) }
         ensures longest { result.1 ≡ longest (runs_in self.now) }
@@ -301,14 +303,14 @@ impl Heap {
         self.committed
     }
 
-    /// Whether a cell that grows moves even if it could stay.
+    /// Whether a cell that grows always moves, even if it could stay at its place.
     pub fn is_moving(&self) -> bool
         ensures { result ≡ self.now.shape.moving }
     {
         self.shape.moving
     }
 
-    /// The greatest committed length so far, in bytes, for which the workbench holds memory.
+    /// The greatest committed length so far, in bytes. The workbench holds memory for this length.
     pub fn held(&self) -> u32
         ensures { result ≡ self.now.held }
     {

@@ -1,6 +1,7 @@
 //! The simulated heap: live cells with their payloads, below a limit.
 //!
-//! What a grant, a release, a compression and a store make of the heap is here; how cells are laid out in words is in the crate `wb_cells`.
+//! This crate defines how a grant, a release, a compression and a store change the heap. The crate `wb_cells` defines how cells are laid
+//! out in words.
 #![tactic(auto)]
 
 pub use fault::HeapFault;

@@ -1,4 +1,4 @@
-//! How a cell becomes longer, at its place or at another one. Where the cell goes, and whether it may grow, is not decided here.
+//! How a cell becomes longer, at its own place or at another place. The callers decide where the cell goes, and whether it may grow.
 
 ghost use Rattle.std.specs.Prelude.{◌≡◌, ◌≢◌, ◌+◌, ◌-◌, ◌/◌, ◌%◌, ◌<◌, ◌≤◌, All, Some, IsSome, option_map, length};
 ghost use Rattle.std.specs.Prelude.{nat_eq, if◌then◌else◌};
@@ -9,8 +9,8 @@ ghost use Rattle.wb_heap_model.specs.Row.{IsRow, IsSpacedFrom, cell_at, headers,
 use wb_cells::Cells;
 use wb_heap_model::heap::{Header, Ptr};
 
-/// Makes a live cell longer, at its own place or at another one, and returns the pointer that names it then. At its own place the cell
-/// keeps its number; at another one it takes `number`.
+/// Makes a live cell longer, at its own place or at another place, and returns the pointer that names the cell afterwards. At its own place
+/// the cell keeps its number; at another place it gets the number `number`.
 pub fn lengthen(cells: &mut Cells, cell: Header, place: u32, length: u32, number: u32) -> Ptr
     requires live { option_map (λ c. c.head) (cell_at (pointer_to cell) cells.old.row) ≡ Some cell }
     requires longer { cell.length < length }
@@ -50,8 +50,8 @@ pub fn lengthen(cells: &mut Cells, cell: Header, place: u32, length: u32, number
     Ptr { place, number }
 }
 
-/// Moves the cell that a pointer names to the place of `moved`, its new header. Its words are copied, and zeros fill the rest of the new
-/// payload.
+/// Moves the cell that a pointer names to the place in `moved`, which is the cell's new header. The words of the payload are copied, and
+/// zeros fill the rest of the new payload.
 fn move_to(cells: &mut Cells, ptr: Ptr, words: u32, moved: Header)
     requires live { IsSome (cell_at ptr cells.old.row) }
     requires whole { words ≡ length (payload_of ptr cells.old.row) }

@@ -1,5 +1,5 @@
-//! Reallocation: cells that become longer or shorter, at their place or at another one. The usable length of a cell, and the change of its
-//! level, are here too.
+//! Reallocation: cells that become longer or shorter, at their own place or at another place. The functions for a cell's usable length and
+//! for a change of a cell's level are here too.
 
 ghost use Rattle.std.specs.Prelude.{◌≡◌, ◌≢◌, ◌+◌, ◌<◌, ◌≤◌, ◌%◌, ◌↔◌, All, IfOk, IfErr, IfSome, IsOk, IsSome};
 ghost use Rattle.std.specs.Prelude.{IsSomeAnd, OnOk, OnErr, Some, None, option_map, not, ◌&&◌, true, false};
@@ -17,12 +17,12 @@ use crate::{moves, room};
 use wb_heap_model::heap::{Header, Ptr};
 
 impl Heap {
-    /// Returns the place of a cell that grows to this length. It is the cell's own place if enough bytes after it are free, as they always
-    /// are after the last cell; if not, it is the place that `place_for` returns while the cell still occupies its old bytes. If the shape
-    /// says that growing cells always move, it is always the latter.
+    /// Returns the place that a cell has after it grows to this length. The cell moves if too few bytes after it are free, or if the shape
+    /// says that growing cells always move. A cell that moves goes to the place that `place_for` returns while the cell still occupies its
+    /// old bytes. A cell that doesn't move keeps its own place. Enough bytes after the last cell are always free.
     ///
-    /// The length is the new cell length in bytes, header included. The limit isn't checked, and the place plus any cell length stays below
-    /// 2^32.
+    /// The length is the new cell length in bytes, including the header. The function doesn't check the limit. The place plus any cell
+    /// length is below 2^32.
     pub fn place_for_realloc(&self, ptr: Ptr, length: u32) -> u32
         requires live { IsSome (cell_at ptr self.now.row) }
         requires length { IsCellLength length }
@@ -42,7 +42,7 @@ impl Heap {
         self.place_to_grow(cell, length)
     }
 
-    /// Returns what `place_for_realloc` returns, for the header of a live cell.
+    /// Does what `place_for_realloc` does, but takes the header of the live cell instead of a pointer.
     pub fn place_to_grow(&self, cell: Header, length: u32) -> u32
         requires live { option_map (λ c. c.head) (cell_at (pointer_to cell) self.now.row)
             ≡ Some cell }
@@ -72,7 +72,7 @@ impl Heap {
         !self.shape.moving && self.fits(cell, length)
     }
 
-    /// Whether a live cell can have this length at its place: whether enough bytes after it are free.
+    /// Whether a live cell can have this length at its place: whether enough bytes after the cell are free.
     fn fits(&self, cell: Header, length: u32) -> bool
         requires live { option_map (λ c. c.head) (cell_at (pointer_to cell) self.now.row)
             ≡ Some cell }
@@ -86,17 +86,19 @@ impl Heap {
         }
     }
 
-    /// Gives a cell another length, and returns the pointer that names it from then on.
+    /// Changes the length of a cell, and returns the pointer that names the cell from then on.
     ///
-    /// `length` is the cell length in bytes, header included, and `number` the attempt's number, from 1 on. A cell that gets no longer
-    /// keeps its place and its number, and the end of the cell is freed with what it held; this is never refused. A cell that grows goes to
-    /// the place that `place_for_realloc` returns. It keeps its kind, its level and what it holds, with zeros after that. It keeps its
-    /// number if it stays; if it moves it takes `number`, so the old pointer is stale.
+    /// `length` is the cell length in bytes, including the header, and `number` is the attempt's number, from 1 on. If the cell gets no
+    /// longer, it keeps its place and its number, and the bytes past its new end are freed; such a call never returns an error. A cell that
+    /// grows goes to the place that `place_for_realloc` returns. It keeps its kind, its level and its words, and gets zeros after these
+    /// words. If the cell stays at its place, it keeps its number. If the cell moves, it gets the number `number`, so the old pointer is
+    /// stale.
     ///
-    /// `BadCell` exactly if the pointer names no live cell. `TooShort` exactly if a growing cell would end past the limit; no lower place
-    /// is tried then. Otherwise `NoMemory` if the workbench's memory runs out, which can't happen if the new committed length is at most
-    /// `held`. A refused call leaves the heap as it was. Source: Symbian OS v9 SDK reference, RHeap, for contents that are kept and for a
-    /// refusal that leaves the old cell, and this project's profile for places and numbers.
+    /// Returns `BadCell` exactly if the pointer names no live cell; otherwise `TooShort` exactly if a growing cell would end past the
+    /// limit; otherwise `NoMemory` if the workbench's memory runs out. After `TooShort`, no lower place is tried. `NoMemory` can't happen
+    /// if the new committed length is at most the length that `held` returns. After an error the heap is as it was. Source: Symbian OS v9
+    /// SDK reference, RHeap, for the kept contents and for a refusal that leaves the old cell; this project's profile for places and
+    /// numbers.
     pub fn realloc(&mut self, ptr: Ptr, length: u32, number: u32) -> Result<Ptr, HeapFault>
         requires length { IsCellLength length }
         requires numbered { 1 ≤ number }
@@ -133,9 +135,9 @@ impl Heap {
         self.lengthen(cell, place, length, number)
     }
 
-    /// Does what `realloc` does to a cell that grows. `cell` must be its header, and `place` the place that `place_to_grow` returns, so the
-    /// search for it isn't repeated. `TooShort` exactly if the cell would end past the limit, and otherwise `NoMemory` if the workbench's
-    /// memory runs out; the heap is then as it was.
+    /// Does what `realloc` does to a cell that grows. `cell` must be the cell's header. `place` must be the place that `place_to_grow`
+    /// returns, so this function doesn't search for the place again. Returns `TooShort` exactly if the cell would end past the limit;
+    /// otherwise `NoMemory` if the workbench's memory runs out. An error leaves the heap as it was.
     pub fn lengthen(
         &mut self,
         cell: Header,
@@ -172,7 +174,7 @@ impl Heap {
         Ok(ptr)
     }
 
-    /// Does what `realloc` does to a cell that gets no longer. `cell` must be its header.
+    /// Does what `realloc` does to a cell that gets no longer. `cell` must be the cell's header.
     pub fn shorten(&mut self, cell: Header, length: u32)
         requires live { option_map (λ c. c.head) (cell_at (pointer_to cell) self.old.row)
             ≡ Some cell }
@@ -188,9 +190,9 @@ impl Heap {
         self.total -= cell.length - length;
     }
 
-    /// Returns the usable length of the cell that the pointer names, in bytes: its cell length without the header.
+    /// Returns the usable length, in bytes, of the cell that the pointer names: the cell length without the header.
     ///
-    /// `BadCell` exactly if the pointer names no live cell. Source: Symbian OS v9 SDK reference, RHeap.
+    /// Returns `BadCell` exactly if the pointer names no live cell. Source: Symbian OS v9 SDK reference, RHeap.
     pub fn alloc_len(&self, ptr: Ptr) -> Result<u32, HeapFault>
         ensures usable { IfOk result (λ bytes.
             IsSomeAnd (cell_at ptr self.now.row) (λ c. bytes ≡ usable_of c.head)) }
@@ -203,7 +205,7 @@ impl Heap {
         }
     }
 
-    /// Gives the cell that the pointer names another level of heap marks, and changes nothing else.
+    /// Sets the level of heap marks of the cell that the pointer names, and changes nothing else.
     pub fn set_level(&mut self, ptr: Ptr, level: u32)
         requires { IsSome (cell_at ptr self.old.row) }
         ensures leveled { self.new ≡ heap_leveled self.old ptr level }

@@ -1,4 +1,4 @@
-//! The workbench's own memory that holds the simulated chunk.
+//! How the workbench takes its own memory for the simulated chunk.
 
 ghost use Rattle.std.specs.Prelude.{◌≡◌, ◌≤◌, ◌%◌, true, max, IfOk, OnOk, OnErr};
 ghost use Rattle.wb_heap_model.specs.Space.{is_shape, space_below, bound_below, committed_by};
@@ -10,11 +10,12 @@ use wb_basics::limits::CEILING;
 use wb_cells::Cells;
 use wb_heap_model::heap::Shape;
 
-/// Checks that a cell with this end is within the limit, takes the workbench's memory for the committed length that the cell needs, and
-/// returns this length in bytes.
+/// Checks that a cell that ends at `end` is within the limit. Takes the workbench's memory for the committed length that the cell needs,
+/// and returns this length in bytes.
 ///
-/// `TooShort` exactly if the end is past the limit. Otherwise `NoMemory` if the workbench's memory runs out, which can't happen if memory
-/// for this length is held already. No memory is asked for if the end is within the committed length.
+/// Returns `TooShort` exactly if `end` is past the limit; otherwise `NoMemory` if the workbench's memory runs out. `NoMemory` can't happen
+/// if the workbench already holds memory for the needed committed length. The function requests no memory if `end` is within the committed
+/// length.
 pub fn hold_for(
     cells: &mut Cells,
     limit: u32,

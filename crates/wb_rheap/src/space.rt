@@ -1,4 +1,4 @@
-//! The committed length of the chunk, and the longest free run below it, in bytes.
+//! The committed length of the chunk, and the length of the longest free run below the committed length, both in bytes.
 
 ghost use Rattle.std.specs.Prelude.{◌≡◌, ◌≤◌, true, min};
 ghost use Rattle.wb_heap_model.specs.Row.{headers, top_of};
@@ -9,7 +9,7 @@ use wb_basics::limits::{CEILING, LARGEST_MINIMUM, LARGEST_STEP, SMALLEST_STEP};
 use wb_cells::Cells;
 use wb_heap_model::heap::Shape;
 
-/// Whether a heap may have this shape.
+/// Whether the shape is allowed for a heap.
 pub fn may_have_shape(shape: Shape) -> bool
     ensures { result ≡ is_shape shape }
 {
@@ -27,14 +27,14 @@ pub fn greatest_below(limit: u32) -> u32
     limit / 16 * 16
 }
 
-/// Returns the least committed length: the shape's least length, or the greatest committed length if that is less.
+/// Returns the least committed length under a limit: the shape's least length or the greatest committed length, whichever is less.
 pub fn least_for(limit: u32, shape: Shape) -> u32
     ensures { result ≡ min shape.min (bound_below limit) }
 {
     shape.min.min(greatest_below(limit))
 }
 
-/// Returns `end` rounded up to whole growth steps, or the greatest committed length if that is less.
+/// Returns `end` rounded up to whole growth steps or the greatest committed length, whichever is less.
 fn grown_to(limit: u32, shape: Shape, end: u32) -> u32
     requires shape { is_shape shape ≡ true }
     requires end { end ≤ CEILING }

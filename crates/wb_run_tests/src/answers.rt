@@ -1,4 +1,4 @@
-//! Answers over readers and writers in memory, some of which fail.
+//! Tests of answers, with readers and writers in memory. Some of these readers and writers fail.
 
 ghost use Rattle.std.specs.Prelude.{IsTrue};
 ghost use Rattle.wb_command_line.specs.Command.{is_answerable};
@@ -15,7 +15,8 @@ use workbench::answer::answer;
 use workbench::exit_status::READ_OR_WRITE_FAULT;
 use workbench::{Command, Silent, Task};
 
-/// A reader that gives its bytes, `at_once` at its first read and `grows` more at each read after it, and then fails or is at its end.
+/// A reader that gives the bytes in `bytes`: at most `at_once` bytes at its first read, and at each later read `grows` more than at the
+/// read before. After the last byte, the reader fails, or is at its end if `then` is `None`.
 #[derive(Drop)]
 struct Giver<'a> {
     bytes: &'a [u8],
@@ -43,7 +44,7 @@ impl Read for Giver<'_> {
     }
 }
 
-/// A reader that gives the byte `a` for ever, `at_once` at a time.
+/// A reader that gives the byte `a` without end, `at_once` bytes at a time.
 #[derive(Drop)]
 struct Endless {
     at_once: usize,
@@ -59,7 +60,8 @@ impl Read for Endless {
     }
 }
 
-/// A writer that takes `room` bytes, `at_once` at a time, and then fails or takes none.
+/// A writer that takes `room` bytes, at most `at_once` bytes at a time. After these bytes, the writer fails, or takes no more bytes if
+/// `then` is `None`.
 #[derive(Drop)]
 struct Taker {
     taken: Vec<u8>,
@@ -89,14 +91,14 @@ impl Write for Taker {
     }
 }
 
-/// A plain run of the script, reported as lines.
+/// The command for a plain run of the script, reported as lines.
 fn run_command() -> Command
     ensures { IsTrue (is_answerable result) }
 {
     command_in(false, false)
 }
 
-/// A plain run of the script, or the search through all lengths, reported as lines or as JSON.
+/// The command for a plain run of the script, or for the search through all lengths. `json` says whether the report is JSON or lines.
 fn command_in(of_lengths: bool, json: bool) -> Command
     ensures { IsTrue (is_answerable result) }
 {
@@ -151,17 +153,17 @@ steps 1
 
 const READ_FAULT: &[u8] = b"read fault\n";
 
-/// An error, and an interrupted call, which isn't tried again.
+/// Two kinds of errors. The second is the error of an interrupted call, which isn't tried again either.
 const KINDS: [ErrorKind; 2] = [ErrorKind::Other, ErrorKind::Interrupted];
 
-/// Ways in which a write fails: with an error, or by taking no byte.
+/// Ways in which a write fails: with an error, or by taking no byte (`None`).
 const FAILURES: [Option<ErrorKind>; 3] = [
     Some(ErrorKind::Other),
     Some(ErrorKind::Interrupted),
     None,
 ];
 
-/// Whether the report for this reader is only the line that reading failed, and the status says so.
+/// Whether the report for this reader has only the line that says that reading failed, and the status says the same.
 fn is_read_fault(alloc: Global, reader: &mut impl Read) -> bool {
     let mut writer = Vec::new(alloc);
     let answered = answer(alloc, &run_command(), reader, &mut writer, &mut Silent);
@@ -175,7 +177,7 @@ fn says_that_a_read_failed(rt: HostRuntime) {
     }
 }
 
-/// The script comes in five reads, and a sixth finds its end.
+/// The script comes in five reads, and a sixth read finds the end of the script. Each of the six reads fails in turn.
 #[test]
 fn reads_no_more_where_a_read_failed(rt: HostRuntime) {
     for kind in KINDS {
@@ -187,7 +189,7 @@ fn reads_no_more_where_a_read_failed(rt: HostRuntime) {
     }
 }
 
-/// The script comes in five reads, a sixth finds its end, and there is no seventh.
+/// The script comes in five reads, a sixth read finds the end of the script, and there is no seventh read.
 #[test]
 fn reads_no_more_where_the_end_is_met(rt: HostRuntime) {
     let mut reader = giving(LEAKING, None);
@@ -204,7 +206,7 @@ fn reads_no_more_where_the_end_is_met(rt: HostRuntime) {
     assert_eq!(rt; reader.reads, 6);
 }
 
-/// Whether the report for this reader is that of `LEAKING`.
+/// Whether the report for this reader is the report of the script `LEAKING`.
 fn has_its_report(alloc: Global, reader: &mut impl Read) -> bool {
     let mut writer = Vec::new(alloc);
     let answered = answer(alloc, &run_command(), reader, &mut writer, &mut Silent);
@@ -224,7 +226,8 @@ fn answers_alike_however_many_bytes_come_at_once(rt: HostRuntime) {
     }
 }
 
-/// One byte comes at the first read, two at the second, and so on: 31 bytes take eight reads, and a ninth finds the end.
+/// One byte comes at the first read, two bytes at the second read, and so on. The 31 bytes take eight reads, and a ninth read finds the
+/// end.
 #[test]
 fn answers_alike_where_each_read_brings_more(rt: HostRuntime) {
     let mut reader = giving(LEAKING, None);
@@ -257,7 +260,8 @@ fn stops(alloc: Global, reader: &mut Giver<'_>, writer: &mut impl Write) -> bool
     answer(alloc, &run_command(), reader, writer, &mut Silent).status == READ_OR_WRITE_FAULT
 }
 
-/// Whether the writer gets the report `text`, five bytes at a time, up to its write `at`, counted from 0, which fails and is the last.
+/// Whether the writer gets the report `text`, five bytes at a time, before its write number `at`, counted from 0. This write fails, and
+/// must be the last.
 fn ends_at_write(
     alloc: Global,
     of_lengths: bool,
@@ -280,7 +284,7 @@ fn ends_at_write(
         && writer.calls == at.wrapping_add(1)
 }
 
-/// Each write in turn, of two reports in both forms, fails in each way.
+/// In each of two reports, in lines and as JSON, each write fails in turn, in each way.
 #[test]
 fn writes_no_more_where_a_write_failed(rt: HostRuntime) {
     for (of_lengths, json) in [(false, false), (false, true), (true, false), (true, true)] {
@@ -306,7 +310,7 @@ fn writes_no_more_where_a_write_failed(rt: HostRuntime) {
     }
 }
 
-/// Whether a writer with room for six bytes holds the first six of the text, and writing fails.
+/// Whether a writer with room for six bytes holds the first six bytes of the text, and writing fails.
 fn stops_at_six(
     alloc: Global,
     reader: &mut Giver<'_>,

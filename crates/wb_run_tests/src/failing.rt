@@ -1,4 +1,4 @@
-//! Scripts that are run and swept while attempts fail, and helpers that compare answers, findings and reports with what they must be.
+//! Scripts that are run and swept while attempts fail, and helpers that compare answers, findings and reports with expected values.
 
 ghost use Rattle.std.specs.Prelude.{IsTrue};
 ghost use Rattle.wb_command_line.specs.Command.{is_answerable};
@@ -22,24 +22,25 @@ pub(crate) const SHAPE: Shape = Shape {
     moving: false,
 };
 
-/// Asks for a large cell, for a small one, and, if the large one failed, for a smaller one in its place. If both attempts for the page
-/// fail, `allocl` leaves, and the cell of `note` is forgotten.
+/// Asks for a large cell, `page`, and for a small cell, `note`. If the attempt for the large cell fails, it asks for a smaller cell for
+/// `page`. If this attempt also fails, `allocl` leaves, and the cell of `note` leaks.
 pub(crate) const FALLBACK: &[u8] =
     b"proc main\nptr page\nptr note\nalloc page 256\nalloc note 16\nif null page\nallocl page 64\nend\nfree note\nfree page\nend\n";
 
-/// Asks for a cell up to three times, and then uses it without a look at the last answer.
+/// Makes up to three attempts to get a cell, until an attempt succeeds. Afterwards, the script uses the cell without checking whether the
+/// last attempt succeeded.
 pub(crate) const THRICE: &[u8] =
     b"proc main\nptr a\nrepeat 3\nif null a\nalloc a 16\nend\nend\nstore a 0 7\nfree a\nend\n";
 
-/// Asks for a cell, and then for six more, of which the script's own setting makes every second fail.
+/// Makes an attempt to get a cell, and then six more attempts. The script's own setting makes every second of these six attempts fail.
 pub(crate) const SETS: &[u8] =
     b"proc main\nptr a\nalloc a 1\nfree a\nfailevery 2\nrepeat 6\nalloc a 1\nfree a\nend\nend\n";
 
-/// Asks for three cells, after a line that ends the script's own setting.
+/// Makes three attempts to get a cell, after a line that ends the script's own setting.
 pub(crate) const SETS_NONE: &[u8] =
     b"proc main\nptr a\nfailevery 1\nfailnone\nrepeat 3\nalloc a 1\nfree a\nend\nend\n";
 
-/// The answers to the attempts of a run.
+/// Returns the answers to the attempts of a run.
 pub(crate) fn answers_of(alloc: Global, script: &[u8], rule: Rule) -> Result<Vec<Answer>, Fail> {
     let script = read(alloc, script)?;
     let told = run(alloc, &script, rule, 99, SHAPE)?;
@@ -60,7 +61,7 @@ pub(crate) fn are_answered(
     Ok(answers_of(alloc, script, rule.rule())?.as_slice() == wanted)
 }
 
-/// The failure that a sweep of the script finds, or the fault that keeps it from an answer.
+/// Returns the failure that a sweep of the script finds, or the fault because of which the sweep finds nothing.
 pub(crate) fn found_in(
     alloc: Global,
     script: &[u8],
@@ -74,9 +75,9 @@ pub(crate) fn found_in(
     })
 }
 
-/// The report and the status that `sweep` or `check` must give for `FALLBACK`, in lines or as JSON.
+/// The report and the status that `sweep` or `check` must give for the script `FALLBACK`, in lines or as JSON.
 pub(crate) struct Wanted {
-    /// Whether the command is `check`, and not `sweep`.
+    /// Whether the command is `check`; if not, it is `sweep`.
     pub(crate) is_check: bool,
     pub(crate) failures: Failures,
     pub(crate) json: bool,

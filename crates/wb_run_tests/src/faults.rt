@@ -1,10 +1,10 @@
-//! Words that `clap` accepts, but that spell no command all the same.
+//! Words that `clap` accepts but that still spell no command.
 
 use std::alloc::Global;
 use std::test::Fail;
 use workbench::{CommandFault, command};
 
-/// The faults of such words, in the order in which they are looked for.
+/// The faults of such words, in the order in which the program looks for them.
 #[derive(Clone, Copy, Debug, PartialEq, Eq)]
 enum Fault {
     Both,
@@ -12,7 +12,7 @@ enum Fault {
     Shape,
 }
 
-/// Words after the program's name, and their fault.
+/// Rows of words after the program's name, each with the fault of the words.
 static FAULTS: [(&[&str], Fault); 38] = [
     (&["run", "--limit", "176", "--fail", "2"], Fault::Both),
     (&["run", "--limit", "176", "--every", "2"], Fault::Both),
@@ -66,7 +66,7 @@ static FAULTS: [(&[&str], Fault); 38] = [
     (&["sweep", "--sets", "--min", "8"], Fault::Shape),
 ];
 
-/// The fault of the words after the program's name, or `None` if they have none of these.
+/// Returns the fault of the words after the program's name; `None` if the words have none of these faults.
 fn fault_of(alloc: Global, rest: &[&str]) -> Result<Option<Fault>, Fail> {
     let mut words = vec![in alloc; "workbench"]?;
     words.extend_from_slice(rest)?;

@@ -1,11 +1,11 @@
-//! The first attempt that a heap of a given length denies, by a table of rises.
+//! Which attempt fails first in a heap of a given length, according to a table of rises.
 
 use std::test::Fail;
 use wb_basics::items::Items;
 use wb_heap_model::size::Rise;
 use wb_size::sizing::Sizing;
 
-/// Lengths in bytes, and the first attempt that a heap of that length denies, or `None` if it denies none.
+/// Lengths in bytes, each with the first attempt that fails in a heap of this length; `None` if no attempt fails.
 static LENGTHS: [(u32, Option<u32>); 8] = [
     (0, Some(1)),
     (143, Some(1)),
@@ -17,7 +17,7 @@ static LENGTHS: [(u32, Option<u32>); 8] = [
     (u32::MAX, None),
 ];
 
-/// The index of the first row whose length denies another attempt first than the row says.
+/// The index of the first row whose attempt differs from the attempt that fails first in a heap of the row's length.
 fn first_other(sizing: &Sizing, lengths: &[(u32, Option<u32>)]) -> Option<usize> {
     for (index, (length, number)) in lengths.iter().enumerate() {
         if sizing.refused_at(*length) != *number {

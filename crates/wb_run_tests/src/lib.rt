@@ -1,7 +1,7 @@
-//! Nothing but tests, by public calls of other crates: of machine turns, shapes that no heap has, the table of lengths, attempts that fail
-//! (at a rate, from a number on, as a pair or as a set), of the program over words, hosts and streams in memory, and of the progress that
-//! it reports during a sweep. They are here so that those crates are proved once, and not again with their tests. Nothing that a worked
-//! case can show is tested here.
+//! This crate has only tests, which use the public calls of other crates. The tests are about machine turns, shapes that no heap may have,
+//! the table of lengths, and attempts that fail (at a rate, from a number on, as a pair or as a set). Other tests are about the program
+//! with words, hosts and streams in memory, and the progress that the program reports during a sweep. The tests have a crate of their own
+//! so that those other crates are proved once, and not again with their tests. No test is here for anything that a worked case can show.
 #![tactic(auto)]
 
 #[cfg(test)]

@@ -1,4 +1,4 @@
-//! The report of a run that has every part which a report may have, compared with one written by hand.
+//! Compares the report of a run with a report written by hand. The run has every part that a report may have.
 
 use arrayvec::ArrayVec;
 use std::alloc::{AllocError, Global};
@@ -50,7 +50,7 @@ fn run(alloc: Global, outcome: Outcome) -> Result<RunResult, AllocError> {
 /// How a run ends.
 #[derive(Clone, Copy)]
 enum End {
-    /// The run ends with these leaks, and with the code of a leave if it left.
+    /// The run ends with these leaks. The number is the code with which `main` leaves; `None` if `main` doesn't leave.
     Left(Option<i32>, &'static [Leak]),
     Panicked(Panic),
     NoCleanup,
@@ -69,7 +69,7 @@ fn outcome(alloc: Global, end: End) -> Result<Outcome, AllocError> {
     })
 }
 
-/// Ends of runs, and the lines that report each.
+/// Ends of runs, each with the lines that report it.
 static ENDS: [(End, &[u8]); 10] = [
     (
         End::Left(
@@ -103,7 +103,7 @@ static ENDS: [(End, &[u8]); 10] = [
     (End::Cut(Why::Ceiling), b"cut ceiling\n"),
 ];
 
-/// Whether the report of a run with this end has these lines between `TEXT` and its last line.
+/// Whether the report of a run with this end has these lines after `TEXT` and before its last line.
 fn is_reported(alloc: Global, end: End, lines: &[u8]) -> Result<bool, Fail> {
     let run = run(alloc, outcome(alloc, end)?)?;
     let mut text = Vec::new(alloc);

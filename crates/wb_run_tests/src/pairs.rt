@@ -9,7 +9,7 @@ use wb_meaning::run::Why;
 use wb_runs::failures::{Failing, Failures};
 use wb_sweep::fault::SweepFault;
 
-/// Scripts, rules, and how the attempts of the run are answered.
+/// Scripts and rules, each with the answers to the attempts of the run.
 static RUNS: [(&[u8], Refuses, &[Answer]); 9] = [
     (FALLBACK, Refuses::Pair(1, 2), &[Simulated]),
     (
@@ -17,7 +17,7 @@ static RUNS: [(&[u8], Refuses, &[Answer]); 9] = [
         Refuses::Pair(2, 3),
         &[Granted, Simulated, Simulated, Granted],
     ),
-    // Attempt 4 is made in place of attempt 2.
+    // Attempt 4 is made because attempt 2 failed.
     (
         FALLBACK,
         Refuses::Pair(2, 4),
@@ -35,7 +35,7 @@ static RUNS: [(&[u8], Refuses, &[Answer]); 9] = [
         Refuses::Pair(2, 16_777_216),
         &[Granted, Simulated, Granted, Granted],
     ),
-    // The setting makes attempt 4 fail too: each of the two attempts fails once.
+    // The setting makes attempt 4 fail too, but attempt 4 still fails only once.
     (
         SETS,
         Refuses::Pair(3, 4),
@@ -43,7 +43,7 @@ static RUNS: [(&[u8], Refuses, &[Answer]); 9] = [
             Granted, Granted, Simulated, Simulated, Granted, Simulated, Granted, Simulated,
         ],
     ),
-    // A pair counts from attempt 1, and not from the setting's line.
+    // The numbers of a pair count from attempt 1, and not from the setting's line.
     (
         SETS,
         Refuses::Pair(5, 7),
@@ -51,7 +51,7 @@ static RUNS: [(&[u8], Refuses, &[Answer]); 9] = [
             Granted, Granted, Granted, Simulated, Simulated, Simulated, Simulated, Simulated,
         ],
     ),
-    // The script can't end a pair.
+    // No line of the script can end the rule of the pair.
     (
         SETS_NONE,
         Refuses::Pair(2, 4),
@@ -70,35 +70,36 @@ fn a_pair_refuses_both(rt: HostRuntime) -> Result<(), Fail> {
     Ok(())
 }
 
-/// `FALLBACK`, with a cell that grows in the end: if attempt 4 alone fails, that cell is forgotten.
+/// The script `FALLBACK`, with a cell that grows at the end. If only attempt 4 fails, this cell leaks.
 const FALLBACK_AND_GROWTH: &[u8] =
     b"proc main\nptr page\nptr note\nalloc page 256\nalloc note 16\nif null page\nallocl page 64\nend\nrealloc note note 99\nfree note\nfree page\nend\n";
 
-/// Two cells. If both fail, the run waits past its budget.
+/// Asks for two cells. If both attempts fail, the run waits past its budget.
 const WAITS: &[u8] =
     b"proc main\nptr a\nptr b\nalloc a 1\nalloc b 1\nif null a\nif null b\nrepeat 99\nend\nend\nend\nfree a\nfree b\nend\n";
 
-/// Like `WAITS`, with a third cell. If attempts 3 and 4 fail, the first cell is forgotten; that pair comes after the pair 2 and 3, for
-/// which the run waits.
+/// Like `WAITS`, with a third cell. If attempts 3 and 4 fail, the first cell leaks. If attempts 2 and 3 fail, the run waits past its
+/// budget; this pair comes first.
 const WAITS_AND_FORGETS: &[u8] =
     b"proc main\nptr a\nptr b\nptr c\nalloc a 1\nalloc b 1\nalloc c 1\nif null b\nif null a\nrepeat 99\nend\nend\nif null c\nnull a\nend\nend\nfree a\nfree b\nfree c\nend\n";
 
-/// Three cells. If attempts 3 and 4 fail, the first cell is forgotten; that pair comes before the pair 3 and 5, for which the run waits.
+/// Asks for three cells. If attempts 3 and 4 fail, the first cell leaks. If attempts 3 and 5 fail, the run waits past its budget; this pair
+/// comes later.
 const FORGETS_AND_WAITS: &[u8] =
     b"proc main\nptr a\nptr b\nptr c\nalloc a 1\nalloc b 1\nalloc c 1\nif null b\nif null c\nnull a\nend\nalloc b 1\nif null b\nrepeat 99\nend\nend\nend\nfree a\nfree b\nfree c\nend\n";
 
-/// A single cell. If it fails, the run waits past its budget.
+/// Asks for one cell. If the attempt fails, the run waits past its budget.
 pub(crate) const WAITS_FOR_ONE: &[u8] =
     b"proc main\nptr a\nalloc a 1\nif null a\nrepeat 99\nend\nend\nfree a\nend\n";
 
 /// A cell that is never freed.
 const LEAKS: &[u8] = b"proc main\nptr a\nalloc a 1\nend\n";
 
-/// Scripts, and what a sweep over pairs finds.
+/// Scripts, each with what a sweep over pairs finds.
 static SWEEPS: [(&[u8], Result<Option<Failing>, SweepFault>); 8] = [
     (FALLBACK, Ok(Some(Failing::Pair(2, 4)))),
     (SETS_NONE, Ok(None)),
-    // A single number comes before every pair, even before a pair of lesser numbers.
+    // A single number comes before every pair, even before a pair of lower numbers.
     (FALLBACK_AND_GROWTH, Ok(Some(Failing::Number(4)))),
     (LEAKS, Ok(Some(Failing::Number(0)))),
     (
@@ -134,7 +135,7 @@ fn pairs_are_found_in_their_order(rt: HostRuntime) -> Result<(), Fail> {
     Ok(())
 }
 
-/// The reports of `sweep` and `check` over pairs for `FALLBACK`.
+/// The reports of `sweep` and `check` over pairs for the script `FALLBACK`.
 static REPORTS: [Wanted; 2] = [
     Wanted {
         is_check: false,

@@ -1,4 +1,4 @@
-//! Sweeps over a part of the numbers: those that find the least bad number, and those that list each.
+//! Sweeps over a part of the numbers. Some sweeps find the first bad number, and others list all numbers.
 
 use std::test::Fail;
 use wb_basics::limits::{CEILING, DEFAULT_BUDGET};
@@ -19,12 +19,12 @@ const SHAPE: Shape = Shape {
     moving: false,
 };
 
-/// Three cells by lines that leave: if attempt 3 fails, one cell leaks, and if attempt 4 fails, two.
+/// Asks for three cells by lines that leave if the attempt fails. If attempt 3 fails, one cell leaks. If attempt 4 fails, two cells leak.
 const THREE_CELLS: &[u8] =
     b"proc main\nptr a\nptr b\nptr c\nallocl a 16\nallocl b 16\nallocl c 16\nfree a\nfree b\nfree c\nend\n";
 
-/// A cell by a line that doesn't leave, and a cell by one that does. If the first fails, the run waits past its budget; if the second
-/// fails, the first leaks.
+/// Asks for a cell by a line that doesn't leave, and for a cell by a line that leaves if the attempt fails. If the first attempt fails, the
+/// run waits past its budget. If the second attempt fails, the first cell leaks.
 const WAITS_AND_LEAKS: &[u8] =
     b"proc main\nptr a\nptr b\nalloc a 16\nif null a\nrepeat 20000\nend\nend\nallocl b 16\nfree a\nfree b\nend\n";
 
@@ -34,22 +34,23 @@ const LEAKS: &[u8] = b"proc main\nptr a\nalloc a 16\nend\n";
 /// A run that waits past its budget.
 const WAITS: &[u8] = b"proc main\nrepeat 20000\nend\nend\n";
 
-/// A second try for a cell, after which the run leaves: it leaks if attempts 3 and 4 fail.
+/// Makes a second attempt for a cell if the first attempt fails, and leaves if the second also fails. A cell leaks if attempts 3 and 4
+/// fail.
 const SECOND_TRY: &[u8] =
     b"proc main\nptr a\nptr b\nalloc b 16\nalloc a 16\nif null a\nalloc a 16\nif null a\nleave -4\nend\nend\nfree a\nfree b\nend\n";
 
-/// The script's own setting makes its third attempt fail.
+/// The script's own setting makes attempt 3 fail.
 const FAILS_ONE: &[u8] =
     b"proc main\nptr a\nptr b\nptr c\nallocl c 16\nfailnext 1\nalloc a 16\nallocl b 16\nfree a\nfree b\nfree c\nend\n";
 
-/// Each number from 2 to 5, as the failure, ends the run in another way.
+/// Each number from 2 to 5, taken as the rate, ends the run in another way.
 const EACH_IN_ITS_WAY: &[u8] =
     b"proc main\nptr a\nptr b\nptr c\nptr d\nalloc a 16\nstore a 0 1\nallocl b 16\nalloc c 16\nif null c\nfree b\nfree b\nend\nalloc d 16\nif null d\ncheck 9\nend\nfree a\nfree b\nfree c\nfree d\nend\n";
 
-/// A script, the failures, and the least and the greatest number that are tried.
+/// A script, the kind of failures, and the least and the greatest number that are tried.
 type Asked = (&'static [u8], Failures, u32, u32);
 
-/// What sweeps over parts find: how many attempts the run without failure makes, and the least bad failure.
+/// What sweeps over parts find: how many attempts the run without failure makes, and the first bad failure.
 static PARTS: [(Asked, Result<(u32, Option<Failing>), SweepFault>); 16] = [
     (
         (THREE_CELLS, Failures::Single, 0, CEILING),
@@ -73,7 +74,7 @@ static PARTS: [(Asked, Result<(u32, Option<Failing>), SweepFault>); 16] = [
         (THREE_CELLS, Failures::Persistent, 4, CEILING),
         Ok((4, Some(Failing::From(4)))),
     ),
-    // The run that is cut isn't in the part.
+    // The part doesn't include the run that is cut.
     (
         (WAITS_AND_LEAKS, Failures::Single, 3, CEILING),
         Ok((3, Some(Failing::Number(3)))),
@@ -85,7 +86,7 @@ static PARTS: [(Asked, Result<(u32, Option<Failing>), SweepFault>); 16] = [
             why: Why::Budget,
         }),
     ),
-    // The run without failure leaks. A part that begins at number 1 doesn't judge that run, nor one under a number past its last attempt.
+    // The run without failure leaks. A part that begins at number 1 judges neither this run nor runs for numbers past its last attempt.
     (
         (LEAKS, Failures::Single, 0, CEILING),
         Ok((2, Some(Failing::Number(0)))),
@@ -98,13 +99,13 @@ static PARTS: [(Asked, Result<(u32, Option<Failing>), SweepFault>); 16] = [
             why: Why::Budget,
         }),
     ),
-    // For pairs, the first number is in the part, and the second may be any.
+    // Only the first number of a pair must be in the part; the second may be any number.
     (
         (SECOND_TRY, Failures::Pairs, 3, 3),
         Ok((3, Some(Failing::Pair(3, 4)))),
     ),
     ((SECOND_TRY, Failures::Pairs, 0, 2), Ok((3, None))),
-    // Number 4 alone leaks, but isn't in the part.
+    // The run in which only attempt 4 fails leaks, but the first part doesn't include number 4.
     (
         (FAILS_ONE, Failures::Pairs, 3, 3),
         Ok((4, Some(Failing::Pair(3, 4)))),
@@ -141,7 +142,8 @@ fn parts_find_their_least(rt: HostRuntime) -> Result<(), Fail> {
     Ok(())
 }
 
-/// What is listed of a part: the numbers whose runs aren't fine, how many of them leak or panic, and the least of these.
+/// What a sweep lists of a part: the numbers whose runs aren't fine, how many of these runs leak or panic, and the first failure whose run
+/// does so.
 static NUMBERS: [(Asked, &[NumberEnd], usize, Option<Failing>); 7] = [
     (
         (THREE_CELLS, Failures::Single, 0, CEILING),
@@ -168,7 +170,7 @@ static NUMBERS: [(Asked, &[NumberEnd], usize, Option<Failing>); 7] = [
         Some(Failing::Number(4)),
     ),
     ((THREE_CELLS, Failures::Single, 5, CEILING), &[], 0, None),
-    // The run leaves at its first failed attempt, so it doesn't matter that later ones would fail.
+    // The run leaves at its first failed attempt, so later failures make no difference.
     (
         (THREE_CELLS, Failures::Persistent, 0, CEILING),
         &[
@@ -262,8 +264,8 @@ fn each_number_is_told(rt: HostRuntime) -> Result<(), Fail> {
     Ok(())
 }
 
-/// How runs of `WAITS_AND_LEAKS` end: `FINE` without failure, and `FIRST`, `SECOND` and `THIRD` if attempt 1, 2 or 3 fails. The second
-/// attempt makes the run wait past its budget, and the third leaks.
+/// How runs of `WAITS_AND_LEAKS` end: `FINE` is the run without failure, and `FIRST`, `SECOND` and `THIRD` are the runs in which attempt 1,
+/// 2 or 3 fails. The run in which attempt 2 fails waits past its budget, and the run in which attempt 3 fails leaks.
 const FINE: NumberEnd = NumberEnd {
     number: 0,
     end: RunEnd::Plain,
@@ -284,7 +286,7 @@ const THIRD: NumberEnd = NumberEnd {
     end: RunEnd::Leaked(1),
 };
 
-/// The least and the greatest number of parts of that script's sweep, and what is listed of each part.
+/// Parts of the sweep over `WAITS_AND_LEAKS`: the least number, the greatest number, and what the sweep lists of the part.
 static LISTED: [(u32, u32, &[NumberEnd]); 4] = [
     (0, CEILING, &[FINE, FIRST, SECOND, THIRD]),
     (1, 2, &[FIRST, SECOND]),

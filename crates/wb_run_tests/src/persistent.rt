@@ -1,4 +1,4 @@
-//! Runs, sweeps and reports in which one attempt and all after it fail.
+//! Runs, sweeps and reports in which one attempt and all later attempts fail.
 
 use crate::failing::{
     FALLBACK, SETS, SETS_NONE, THRICE, Wanted, are_answered, found_in, is_answered,
@@ -12,7 +12,7 @@ use wb_meaning::run::Why;
 use wb_runs::failures::{Failing, Failures};
 use wb_sweep::fault::SweepFault;
 
-/// Scripts, rules, and how the attempts of the run are answered.
+/// Scripts and rules, each with the answers to the attempts of the run.
 static RUNS: [(&[u8], Refuses, &[Answer]); 8] = [
     (FALLBACK, Refuses::From(0), &[Granted, Granted, Granted]),
     (FALLBACK, Refuses::From(1), &[Simulated]),
@@ -28,7 +28,8 @@ static RUNS: [(&[u8], Refuses, &[Answer]); 8] = [
         Refuses::From(2),
         &[Granted, Simulated, Simulated, Simulated],
     ),
-    // The rule's number counts from attempt 1, and not from the setting's line. Before attempt 5, the setting makes attempt 4 fail.
+    // The rule's number counts from attempt 1, and not from the setting's line. Only the setting makes attempt 4 fail; the rule begins at
+    // attempt 5.
     (
         SETS,
         Refuses::From(5),
@@ -36,7 +37,7 @@ static RUNS: [(&[u8], Refuses, &[Answer]); 8] = [
             Granted, Granted, Granted, Simulated, Simulated, Simulated, Simulated, Simulated,
         ],
     ),
-    // The script can't end the rule.
+    // No line of the script can end the rule.
     (
         SETS_NONE,
         Refuses::From(3),
@@ -55,9 +56,10 @@ fn all_are_refused_from_one_on(rt: HostRuntime) -> Result<(), Fail> {
     Ok(())
 }
 
-/// Scripts, failures, and what a sweep over them finds.
+/// Scripts and kinds of failures, each with what a sweep finds.
 static SWEEPS: [(&[u8], Failures, Result<Option<Failing>, SweepFault>); 5] = [
-    // If attempt 2 fails, the next turn of the `repeat` asks again, and under a single number or a rate that attempt is granted.
+    // If attempt 2 fails, the next turn of the `repeat` makes another attempt. If only a single number or a rate fails, this other attempt
+    // is granted.
     (THRICE, Failures::Single, Ok(None)),
     (THRICE, Failures::Every, Ok(None)),
     (THRICE, Failures::Persistent, Ok(Some(Failing::From(2)))),
@@ -81,7 +83,7 @@ fn a_sweep_finds_from_where_on_all_may_fail(rt: HostRuntime) -> Result<(), Fail>
     Ok(())
 }
 
-/// The reports of `sweep` and `check` for `FALLBACK`.
+/// The reports of `sweep` and `check` over such failures for the script `FALLBACK`.
 static REPORTS: [Wanted; 2] = [
     Wanted {
         is_check: false,

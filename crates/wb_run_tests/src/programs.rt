@@ -1,4 +1,4 @@
-//! Where the report and the messages of the program go, and what it opens, over a host in memory.
+//! Tests of the program with a host in memory: where the report and the messages go, and what the program opens.
 
 ghost use Rattle.std.specs.Prelude.{⊤};
 
@@ -10,7 +10,7 @@ use workbench::Silent;
 use workbench::host::Host;
 use workbench::program::program;
 
-/// One file and a standard input, and how often each was asked for.
+/// A host with one file and a standard input, which counts how often the program asks for each of them.
 #[derive(Drop)]
 struct Desk<'a> {
     name: &'a str,
@@ -54,7 +54,7 @@ const FILE_REPORT: &str =
 const INPUT_REPORT: &str =
     "print input\nattempt 1 length 144 place 0 granted\nended\nleaks 0\nsteps 1\n";
 
-/// A desk with a file called `-`.
+/// A host whose one file has the name `-`.
 fn full_desk() -> Desk<'static> {
     Desk {
         name: "-",
@@ -65,7 +65,7 @@ fn full_desk() -> Desk<'static> {
     }
 }
 
-/// What the program must write, its status, and how often it must open a file or take the standard input.
+/// The output and the messages that the program must write, its status, and how often it must open a file or take the standard input.
 #[derive(Clone, Copy)]
 struct Wanted {
     output: &'static str,
@@ -75,7 +75,7 @@ struct Wanted {
     lent: usize,
 }
 
-/// Words after the program's name that spell a command, and what must come of them.
+/// Words after the program's name that spell a command, and what the program must do with them.
 static COMMANDS: [(&[&str], Wanted); 4] = [
     (
         &["run"],
@@ -107,7 +107,7 @@ static COMMANDS: [(&[&str], Wanted); 4] = [
             lent: 0,
         },
     ),
-    // There is no such file.
+    // The host has no file with this name.
     (
         &["run", "a.oom"],
         Wanted {
@@ -120,7 +120,7 @@ static COMMANDS: [(&[&str], Wanted); 4] = [
     ),
 ];
 
-/// Words after the program's name that spell no command. The messages for them are in worked cases.
+/// Words after the program's name that spell no command. The worked cases show the messages for such words.
 static REFUSED: [&[&str]; 31] = [
     &["run", "-", "--limit", "176", "--fail", "2"],
     &["run", "-", "--limit", "176", "--every", "2"],
@@ -155,7 +155,7 @@ static REFUSED: [&[&str]; 31] = [
     &["help", "check"],
 ];
 
-/// Whether the program does what is wanted with these words, or with the error for which there are none.
+/// Whether the program does what is wanted with these words. If `words` is an error, the words couldn't be read.
 fn comes_to(alloc: Global, words: io::Result<Vec<&'static str>>, wanted: &Wanted) -> bool {
     let mut desk = full_desk();
     let mut output = Vec::new(alloc);
@@ -175,7 +175,7 @@ fn comes_to(alloc: Global, words: io::Result<Vec<&'static str>>, wanted: &Wanted
         && desk.lent == wanted.lent
 }
 
-/// Whether the program, with these words or this error, writes this message, ends with this status, and does nothing else.
+/// Whether the program, with these words or this error, writes this message and ends with this status, and does nothing else.
 fn is_refused(
     alloc: Global,
     words: io::Result<Vec<&'static str>>,
@@ -192,7 +192,7 @@ fn is_refused(
     comes_to(alloc, words, &refused)
 }
 
-/// The words, the program's name first.
+/// The words of a command line: the program's name, and then the words in `rest`.
 fn words(alloc: Global, rest: &[&'static str]) -> Result<Vec<&'static str>, Fail> {
     let mut words = vec![in alloc; "workbench"]?;
     words.extend_from_slice(rest)?;
@@ -208,8 +208,8 @@ fn carries_out_what_the_words_say(rt: HostRuntime) -> Result<(), Fail> {
     Ok(())
 }
 
-/// Whether the program, with these words, opens no file, takes no standard input, writes no report, and ends with the status of a wrong
-/// command line.
+/// Whether the program leaves everything alone with these words: it opens no file, takes no standard input and writes no report. The status
+/// must say that the command line is wrong.
 fn is_left_alone(alloc: Global, words: Vec<&'static str>) -> bool {
     let mut desk = full_desk();
     let mut output = Vec::new(alloc);

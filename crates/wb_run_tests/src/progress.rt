@@ -1,4 +1,5 @@
-//! The progress that is reported during a sweep, or during the search through all lengths; all of it comes before anything is written.
+//! Tests of the progress that the program reports during a run, a sweep, or the search through all lengths. The program must report all
+//! progress before it writes anything.
 
 ghost use Rattle.std.specs.Prelude.{⊤};
 
@@ -14,18 +15,21 @@ use wb_heap_model::heap::Numbers;
 use wb_runs::failures::Failing;
 use workbench::host::Host;
 use workbench::program::program;
-use workbench::{Aim, Progress};
+use workbench::{Aim, Progress, StepProgress};
 
-/// Compares the notifications that come with those that must come.
+/// A listener that compares the notifications it gets with the notifications that it must get.
 #[derive(Drop)]
 struct Listener<'a> {
     /// The failures that are still to be reported.
     to_come: &'static [Failing],
-    /// Whether states were met.
+    /// Whether the sweep met states.
     has_met_states: bool,
     /// The lengths that are still to be reported, in bytes.
     lengths_to_come: &'static [u32],
+    /// The numbers of steps that are still to be reported as progress.
+    steps_to_come: &'static [u32],
     is_as_wanted: bool,
+    begun_runs: u32,
     begun: u32,
     aim: Option<Aim>,
     last: Option<u32>,
@@ -34,14 +38,31 @@ struct Listener<'a> {
 }
 
 impl Listener<'_> {
-    /// A sweep, or the search through all lengths, begins.
+    /// Notes that a sweep, or the search through all lengths, begins.
     fn note_begin(&mut self) {
         self.begun = self.begun.wrapping_add(1);
         self.is_under_way.set(true);
     }
 }
 
+impl StepProgress for Listener<'_> {
+    fn take_steps(&mut self, steps: u32) {
+        match self.steps_to_come.split_first() {
+            Some((next, rest)) => {
+                self.is_as_wanted &= *next == steps && self.is_under_way.get();
+                self.steps_to_come = rest;
+            }
+            None => self.is_as_wanted = false,
+        }
+    }
+}
+
 impl Progress for Listener<'_> {
+    fn begin_run(&mut self) {
+        self.begun_runs = self.begun_runs.wrapping_add(1);
+        self.is_under_way.set(true);
+    }
+
     fn begin(&mut self, aim: Aim) {
         self.aim = Some(aim);
         self.note_begin();
@@ -70,7 +91,7 @@ impl Progress for Listener<'_> {
         self.is_as_wanted = false;
     }
 
-    fn meet_state(&mut self) {
+    fn meet_state(&mut self, _waiting: usize) {
         self.is_as_wanted &= self.to_come.is_empty();
         self.has_met_states = true;
     }
@@ -95,7 +116,7 @@ impl Progress for Listener<'_> {
     }
 }
 
-/// Takes all bytes, and notes whether some came while a sweep was under way.
+/// A writer that takes all bytes, and notes whether some came while a sweep was under way.
 #[derive(Drop)]
 struct Taker<'a> {
     is_under_way: &'a Cell<bool>,
@@ -115,7 +136,7 @@ impl Write for Taker<'_> {
     }
 }
 
-/// A standard input, and no file.
+/// A host with a standard input and without files.
 #[derive(Drop)]
 struct Desk {
     input: &'static [u8],
@@ -139,7 +160,7 @@ impl Host for Desk {
     }
 }
 
-/// Whether the program reports the wanted progress, all of it before anything is written. `is_under_way` must be false at first.
+/// Whether the program reports the wanted progress, and reports all of it before it writes anything. `is_under_way` must be false at first.
 fn is_reported<'a>(
     alloc: Global,
     words: Vec<&'static str>,
@@ -150,7 +171,9 @@ fn is_reported<'a>(
         to_come: wanted.failures,
         has_met_states: false,
         lengths_to_come: wanted.lengths,
+        steps_to_come: wanted.steps,
         is_as_wanted: true,
+        begun_runs: 0,
         begun: 0,
         aim: None,
         last: None,
@@ -178,10 +201,12 @@ fn is_reported<'a>(
         && listener.to_come.is_empty()
         && listener.has_met_states == wanted.are_sets_searched
         && listener.lengths_to_come.is_empty()
+        && listener.steps_to_come.is_empty()
+        && listener.begun_runs == wanted.single_runs
         && listener.begun == wanted.sweeps
         && listener.aim == wanted.aim
         && listener.last == wanted.last
-        && listener.ended == wanted.sweeps
+        && listener.ended == wanted.sweeps.wrapping_add(wanted.single_runs)
         && taker.taken > 0
         && !taker.is_early
 }

@@ -1,4 +1,4 @@
-//! Runs, sweeps and reports in which every attempt fails whose number is a multiple of a rate.
+//! Runs, sweeps and reports with a rate: every attempt fails whose number is a multiple of the rate.
 
 use crate::failing::{FALLBACK, SETS, SETS_NONE, Wanted, are_answered, found_in, is_answered};
 use crate::rules::Refuses;
@@ -7,7 +7,7 @@ use wb_heap_model::heap::Answer;
 use wb_heap_model::heap::Answer::{Granted, Simulated};
 use wb_runs::failures::{Failing, Failures};
 
-/// Scripts, rules, and how the attempts of the run are answered.
+/// Scripts and rules, each with the answers to the attempts of the run.
 static RUNS: [(&[u8], Refuses, &[Answer]); 9] = [
     (FALLBACK, Refuses::Every(0), &[Granted, Granted, Granted]),
     (FALLBACK, Refuses::Every(1), &[Simulated]),
@@ -18,7 +18,7 @@ static RUNS: [(&[u8], Refuses, &[Answer]); 9] = [
     ),
     (FALLBACK, Refuses::Every(3), &[Granted, Granted, Simulated]),
     (FALLBACK, Refuses::Every(4), &[Granted, Granted, Granted]),
-    // No rate, but the script's setting alone, which counts from its own line on.
+    // The run has no rate, but only the script's setting, which counts from its own line on.
     (
         SETS,
         Refuses::Every(0),
@@ -26,7 +26,7 @@ static RUNS: [(&[u8], Refuses, &[Answer]); 9] = [
             Granted, Granted, Granted, Simulated, Granted, Simulated, Granted, Simulated,
         ],
     ),
-    // The rate counts from attempt 1, so it makes attempts 3 and 6 fail; the setting makes attempt 6 fail too.
+    // The rate counts from attempt 1, so the rate makes attempts 3 and 6 fail. The setting makes attempt 6 fail too.
     (
         SETS,
         Refuses::Every(3),
@@ -34,7 +34,7 @@ static RUNS: [(&[u8], Refuses, &[Answer]); 9] = [
             Granted, Granted, Simulated, Simulated, Granted, Simulated, Granted, Simulated,
         ],
     ),
-    // The rate makes attempt 5 fail. Counted from the setting's line on, its first would be attempt 7.
+    // The rate makes attempt 5 fail. If the rate counted from the setting's line on, its first failed attempt would be attempt 7.
     (
         SETS,
         Refuses::Every(5),
@@ -42,7 +42,7 @@ static RUNS: [(&[u8], Refuses, &[Answer]); 9] = [
             Granted, Granted, Granted, Simulated, Simulated, Simulated, Granted, Simulated,
         ],
     ),
-    // The script can't end a rate.
+    // No line of the script can end the rule of the rate.
     (
         SETS_NONE,
         Refuses::Every(2),
@@ -69,7 +69,7 @@ fn a_rate_finds_what_no_number_does(rt: HostRuntime) -> Result<(), Fail> {
     Ok(())
 }
 
-/// The reports of `sweep` and `check` for `FALLBACK`, without rates and with them.
+/// The reports of `sweep` and `check` for the script `FALLBACK`, without rates and with rates.
 static REPORTS: [Wanted; 4] = [
     Wanted {
         is_check: false,

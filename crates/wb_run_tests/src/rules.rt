@@ -1,8 +1,8 @@
-//! Rules as the tests' tables name them. A static can't hold a [`Rule`], since a rule may own a list.
+//! Rules as the tables of the tests write them. A static can't hold a [`Rule`], because a rule may own a list.
 
 use wb_heap_model::heap::Rule;
 
-/// Which attempts are denied or made to fail.
+/// Which attempts fail.
 #[derive(Clone, Copy)]
 pub(crate) enum Refuses {
     Nothing,

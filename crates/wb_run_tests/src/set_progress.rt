@@ -1,4 +1,5 @@
-//! The progress that is reported while a sweep tries sets of attempts one by one, which it does if its runs are in too many states.
+//! Tests of the progress that is reported while a sweep tries sets of attempts one by one. A sweep tries sets one by one if its runs come
+//! to too many states.
 
 ghost use Rattle.std.specs.Prelude.{◌≤◌};
 
@@ -9,21 +10,21 @@ use wb_runs::failures::{Failing, Failures};
 use wb_runs::part::Part;
 use wb_script::read;
 use wb_sweep::{sweep, sweep_sets};
-use workbench::{Aim, Progress};
+use workbench::{Aim, Progress, StepProgress};
 
-/// Counts the notifications of a sweep.
+/// A listener that counts the notifications of a sweep.
 #[derive(Clone, Copy, Debug, Drop)]
 struct Listener {
     failures: u32,
     sets: u32,
-    /// How many states were met before the first set was tried.
+    /// How many states the sweep met before it tried the first set.
     states: u32,
-    /// How many attempts each set has that is being tried.
+    /// How many attempts each of the sets has that the sweep tries now.
     many: u32,
-    /// The numbers of the last set, and then zeros.
+    /// The numbers of the last set; the remaining entries are zero.
     set: [u32; 3],
-    /// Whether the notifications came in order: single failures before sets are announced, states before the first set, and sets of `many`
-    /// attempts each, one after another.
+    /// Whether the notifications came in order: single failures before sets are announced, states before the first set, and sets in their
+    /// order, with `many` attempts each.
     are_in_order: bool,
 }
 
@@ -40,7 +41,13 @@ impl Listener {
     }
 }
 
+impl StepProgress for Listener {
+    fn take_steps(&mut self, _steps: u32) {}
+}
+
 impl Progress for Listener {
+    fn begin_run(&mut self) {}
+
     fn begin(&mut self, _aim: Aim) {}
 
     fn begin_failures(&mut self, _first: u32, _last: u32) {}
@@ -69,7 +76,8 @@ impl Progress for Listener {
         self.set = set;
     }
 
-    fn meet_state(&mut self) {
+    fn meet_state(&mut self, waiting: usize) {
+        self.are_in_order &= waiting > 0;
         self.are_in_order &= self.sets == 0;
         self.states = self.states.wrapping_add(1);
     }
@@ -81,14 +89,14 @@ impl Progress for Listener {
     fn end(&mut self) {}
 }
 
-/// Whether a set comes before another set of the same size.
+/// Whether the set `set` comes before the set `other` of the same size.
 fn comes_before(set: [u32; 3], other: [u32; 3]) -> bool {
     let [a, b, c] = set;
     let [d, e, f] = other;
     a < d || (a == d && (b < e || (b == e && c < f)))
 }
 
-/// The number at an index; 0 past the end.
+/// The number at an index of a set; 0 if the index is past the end.
 fn number_at(numbers: &Numbers, at: usize) -> u32 {
     match numbers.get(at) {
         Some(number) => *number,
@@ -96,11 +104,11 @@ fn number_at(numbers: &Numbers, at: usize) -> u32 {
     }
 }
 
-/// A script of 60 attempts that adds up the turns whose attempts fail, so that few runs are ever in the same state.
+/// A script of 60 attempts that adds up the numbers of the turns whose attempts fail. So few of its runs are ever in the same state.
 const SUMS: &[u8] =
     b"proc main\nptr a\nint turn\nint sum\nrepeat 60\nadd turn 1\nalloc a 16\nif null a\nadd sum turn\nend\nfree a\nend\nend\n";
 
-/// A script of 16 attempts whose sum tells exactly which of them failed.
+/// A script of 16 attempts whose sum shows exactly which of these attempts failed.
 const BITS: &[u8] =
     b"proc main\nptr a\nint bit\nint sum\nset bit 1\nrepeat 16\nalloc a 16\nif null a\nadd sum bit\nend\nfree a\nadd bit bit\nend\nend\n";
 
@@ -110,7 +118,7 @@ const SHAPE: Shape = Shape {
     moving: false,
 };
 
-/// Sweeps over sets of at most `most` attempts, and returns the listener.
+/// Sweeps over sets of at most `most` attempts, and returns the listener that got the notifications.
 fn listen_to_sweep(alloc: Global, script: &[u8], most: u32) -> Result<Listener, Fail>
     requires { 1 ≤ most }
 {
@@ -124,8 +132,8 @@ fn listen_to_sweep(alloc: Global, script: &[u8], most: u32) -> Result<Listener, 
     Ok(listener)
 }
 
-// Attempt 1 is the cleanup stack's. A run in which it fails makes no other attempt, so all sets are made of the 16 others. Sets of two
-// attempts lead to fewer than 1,000 states, and sets of three to more.
+// Attempt 1 is for the cleanup stack. A run in which attempt 1 fails makes no other attempt, so all sets consist of the 16 other attempts.
+// Sets of two attempts lead to fewer than 1,000 states, but sets of three attempts lead to more.
 #[test]
 fn sets_are_tried_where_states_are_many(rt: HostRuntime) -> Result<(), Fail> {
     for (most, sets) in [(1, 0), (2, 0), (3, 560)] {

@@ -1,4 +1,4 @@
-//! Words that spell a set of attempts, words that spell none, and runs in which the attempts of a set fail.
+//! Words that spell a set of attempts, words that don't spell a set, and runs in which the attempts of a set fail.
 
 use crate::failing::{FALLBACK, SETS, SETS_NONE, answers_of};
 use std::alloc::{AllocError, Global};
@@ -7,7 +7,7 @@ use wb_heap_model::heap::Answer::{Granted, Simulated};
 use wb_heap_model::heap::{Answer, Rule};
 use workbench::{CommandFault, Task, command};
 
-/// Texts that are lists, and their numbers.
+/// Texts that are lists, each with the numbers of the list.
 static LISTS: [(&str, &[u32]); 8] = [
     ("1", &[1]),
     ("16777216", &[16_777_216]),
@@ -19,7 +19,7 @@ static LISTS: [(&str, &[u32]); 8] = [
     ("1,2,3,4,5,6,7,8,9", &[1, 2, 3, 4, 5, 6, 7, 8, 9]),
 ];
 
-/// Texts that are no lists.
+/// Texts that aren't lists.
 static NO_LISTS: [&str; 24] = [
     "",
     ",",
@@ -47,7 +47,7 @@ static NO_LISTS: [&str; 24] = [
     "3,x",
 ];
 
-/// Scripts, lists, and how the attempts of the run are answered.
+/// Scripts and lists, each with the answers to the attempts of the run.
 static RUNS: [(&[u8], &str, &[Answer]); 7] = [
     (FALLBACK, "1,2,3", &[Simulated]),
     (
@@ -58,7 +58,7 @@ static RUNS: [(&[u8], &str, &[Answer]); 7] = [
     (FALLBACK, "3,4,5", &[Granted, Granted, Simulated]),
     (FALLBACK, "4,5,16777216", &[Granted, Granted, Granted]),
     (FALLBACK, "2,4,9", &[Granted, Simulated, Granted, Simulated]),
-    // The setting makes attempt 4 fail too: each attempt fails once.
+    // The setting makes attempt 4 fail too, but attempt 4 still fails only once.
     (
         SETS,
         "3,4,5,7",
@@ -66,7 +66,7 @@ static RUNS: [(&[u8], &str, &[Answer]); 7] = [
             Granted, Granted, Simulated, Simulated, Simulated, Simulated, Simulated, Simulated,
         ],
     ),
-    // The script can't end a set.
+    // No line of the script can end the rule of the set.
     (
         SETS_NONE,
         "2,3,4",
@@ -74,7 +74,7 @@ static RUNS: [(&[u8], &str, &[Answer]); 7] = [
     ),
 ];
 
-/// The task of `run` with this text as the list of `--set`, or its fault.
+/// Returns the task of `run` with this text as the list of `--set`, or the fault of the command.
 fn task_of(alloc: Global, text: &str) -> Result<Task, CommandFault> {
     let option = format!(in alloc; "--set={text}")?;
     Ok(command(alloc, &["workbench", "run", option.as_str()])?.task)
@@ -88,7 +88,7 @@ fn is_list_of(alloc: Global, text: &str, numbers: &[u32]) -> bool {
     }
 }
 
-/// Whether the text is rejected because it is no list.
+/// Whether the program rejects the text because the text isn't a list.
 fn is_no_list(alloc: Global, text: &str) -> Result<bool, AllocError> {
     match task_of(alloc, text) {
         Err(CommandFault::Usage(error)) => {

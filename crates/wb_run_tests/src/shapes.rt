@@ -1,4 +1,4 @@
-//! Calls with a shape that no heap has. No words of a command line spell such a shape.
+//! Tests of calls with a shape that no heap may have. No words of a command line can spell such a shape.
 
 use std::test::Fail;
 use wb_heap_model::heap::{Rule, Shape};
@@ -42,7 +42,7 @@ fn no_table_of_lengths_has_it(rt: HostRuntime) -> Result<(), Fail> {
     let script = read(rt.alloc(), EMPTY)?;
     let told = lengths(rt.alloc(), &script, 5, ODD, &mut Silent);
     assert_eq!(rt; told.err(), Some(RunFault::BadShape));
-    let told = lengths_within(rt.alloc(), &script, 5, ODD, 100);
+    let told = lengths_within(rt.alloc(), &script, 5, ODD, 100, &mut Silent);
     assert_eq!(rt; told.err(), Some(RunFault::BadShape));
     Ok(())
 }

@@ -1,4 +1,4 @@
-//! Tasks as the tests' tables name them.
+//! Tasks as the tables of the tests write them.
 
 use crate::rules::Refuses;
 use wb_heap_model::heap::Rule;
@@ -31,7 +31,7 @@ impl Asks {
     }
 }
 
-/// Whether both rules are the same; `false` if one of them is a set.
+/// Whether the two rules are equal; `false` if one of the rules is a set.
 fn is_same(rule: &Rule, wanted: &Rule) -> bool {
     match (rule, wanted) {
         (Rule::Unlimited, Rule::Unlimited) => true,

@@ -1,4 +1,4 @@
-//! The turns of a machine: what each returns, and whether it makes an attempt.
+//! Tests of the turns of a machine: what each turn returns, and whether it makes an attempt.
 
 use crate::rules::Refuses;
 use std::alloc::Global;
@@ -13,15 +13,17 @@ const SHAPE: Shape = Shape {
     moving: false,
 };
 
-/// Sixteen of the largest cells, the last of which would end past the heap's ceiling.
+/// Sixteen cells of the greatest length. The last of these cells would end past the heap's ceiling.
 const SIXTEEN_LARGEST: &[u8] =
     b"proc main\nptr a\nalloc a 1048576\nalloc a 1048576\nalloc a 1048576\nalloc a 1048576\nalloc a 1048576\nalloc a 1048576\nalloc a 1048576\nalloc a 1048576\nalloc a 1048576\nalloc a 1048576\nalloc a 1048576\nalloc a 1048576\nalloc a 1048576\nalloc a 1048576\nalloc a 1048576\nalloc a 1048576\nend\n";
 
-/// A cleanup stack that moves for its 8th item, since another cell follows it, and grows at its place for the 12th and the 16th.
+/// A cleanup stack that grows three times. For its 8th item it moves, because another cell follows it. For the 12th and the 16th item it
+/// grows at its place.
 const GROWS_THREE_TIMES: &[u8] =
     b"proc main\nptr a\nptr none\nint c\ntrap c\nallocl a 16\npush a\nrepeat 15\npush none\nend\npopdestroy 16\nend\nend\n";
 
-/// Two rounds, in each of which eight cells are made and pushed. The cleanup stack grows in the first round in which all eight are pushed.
+/// Two rounds. In each round, eight cells are made and pushed. The cleanup stack grows in the first round in which all eight cells are
+/// pushed.
 const TWO_ROUNDS: &[u8] =
     b"proc main\nptr a\nint c\nrepeat 2\ntrap c\nrepeat 8\nallocl a 16\npush a\nend\npopdestroy 8\nend\nend\nend\n";
 
@@ -31,16 +33,16 @@ const TWO_CELLS: &[u8] = b"proc main\nptr a\nrepeat 2\nalloc a 1\nfree a\nend\ne
 /// A script, a rule and a budget.
 type Setting = (&'static [u8], Refuses, u32);
 
-/// Whether the machine says that its next turn makes an attempt, what that turn returns, and how many attempts were made by then.
+/// Whether the machine says that its next turn makes an attempt, what this turn returns, and how many attempts have been made afterwards.
 type TurnResult = (bool, Turn, u32);
 
-/// Runs, and the results of their turns, from the first turn to one after the end.
+/// Runs, each with the results of its turns, from the first turn to one turn after the end.
 static TURNS: [(Setting, &[TurnResult]); 2] = [
     (
         (TWO_CELLS, Refuses::Nothing, 9),
         &[
             (true, Turn::GoesOn, 1),
-            // The head of the `repeat`, and its first turn.
+            // The line of the `repeat`, and the first turn of the `repeat`.
             (false, Turn::GoesOn, 1),
             (false, Turn::GoesOn, 1),
             (true, Turn::GoesOn, 2),
@@ -51,12 +53,12 @@ static TURNS: [(Setting, &[TurnResult]); 2] = [
             (false, Turn::Ended, 3),
         ],
     ),
-    // The attempt that would pass the ceiling is announced, but isn't counted.
+    // The attempt that would pass the ceiling is announced but not counted.
     (
         (SIXTEEN_LARGEST, Refuses::Nothing, 99),
         &[
             (true, Turn::GoesOn, 1),
-            // Fifteen cells.
+            // Fifteen turns that each make a cell.
             (true, Turn::GoesOn, 2),
             (true, Turn::GoesOn, 3),
             (true, Turn::GoesOn, 4),
@@ -78,7 +80,7 @@ static TURNS: [(Setting, &[TurnResult]); 2] = [
     ),
 ];
 
-/// The result of the next turn, or `None` if the workbench's own memory runs out.
+/// Takes the next turn, and returns its result; `None` if the workbench's own memory runs out.
 fn next_turn(machine: &mut Machine) -> Option<TurnResult> {
     let will = machine.will_attempt();
     match machine.step() {
@@ -103,7 +105,7 @@ static SETTINGS: [Setting; 22] = [
     (TWO_CELLS, Refuses::Nothing, 9),
     (TWO_CELLS, Refuses::Number(1), 9),
     (TWO_CELLS, Refuses::Number(2), 9),
-    // The budget cuts the run before the second request.
+    // The budget cuts the run before the second attempt of its `alloc`.
     (TWO_CELLS, Refuses::Nothing, 5),
     (
         b"proc make n:int\nptr a\nalloc a n\nreturn a\nend\nproc main\nptr p\ncallto p make 9\nfree p\nend",
@@ -120,7 +122,8 @@ static SETTINGS: [Setting; 22] = [
         Refuses::Nothing,
         9,
     ),
-    // A cell that shrinks makes no attempt. A cell that grows makes one, and so does a null pointer.
+    // A `realloc` that makes a cell shorter makes no attempt. A `realloc` that makes a cell longer, or that gets a null pointer, makes an
+    // attempt.
     (
         b"proc main\nptr a\nrealloc a a 99\nrealloc a a 9\nreallocl a a 999\nend",
         Refuses::Nothing,
@@ -143,7 +146,7 @@ static SETTINGS: [Setting; 22] = [
         Refuses::Nothing,
         9,
     ),
-    // Some pushes make an attempt. The other pushes, and the lines that take items off, make none.
+    // Some pushes make an attempt. The other pushes, and the lines that take items off the stack, make no attempt.
     (GROWS_THREE_TIMES, Refuses::Nothing, 99),
     (GROWS_THREE_TIMES, Refuses::Number(4), 99),
     (GROWS_THREE_TIMES, Refuses::Past(383), 99),
@@ -152,15 +155,15 @@ static SETTINGS: [Setting; 22] = [
     (TWO_CELLS, Refuses::Pair(2, 3), 9),
     (TWO_ROUNDS, Refuses::Pair(4, 12), 99),
     (TWO_ROUNDS, Refuses::Number(10), 99),
-    // The budget cuts the run before the 8th push, and before an item is destroyed.
+    // The budget of the first row cuts the run before the 8th push. The budget of the second row cuts the run before an item is destroyed.
     (GROWS_THREE_TIMES, Refuses::Nothing, 17),
     (GROWS_THREE_TIMES, Refuses::Nothing, 40),
 ];
 
-/// Whether a machine announces an attempt before every turn that makes one and before no other, up to the end of its run, and announces
-/// none after the end.
+/// Whether a machine announces an attempt exactly before the turns that make an attempt, up to the end of its run. After the end it must
+/// announce no attempt.
 fn returns_attempts(machine: &mut Machine, budget: u32) -> bool {
-    // one turn begins the run, and one more may cut it
+    // one turn begins the run, and one more turn may cut the run
     for _ in 0..budget.saturating_add(2) {
         let before = machine.attempts();
         let Some((will, turn, attempts)) = next_turn(machine) else {
@@ -176,7 +179,7 @@ fn returns_attempts(machine: &mut Machine, budget: u32) -> bool {
     false
 }
 
-/// Whether the first turns of a run have these results, and the machine announces the attempts of the turns that follow, and no others.
+/// Whether the first turns of a run have these results, and the machine announces exactly the attempts of the later turns.
 fn returns(alloc: Global, setting: &Setting, turns: &[TurnResult]) -> Result<bool, Fail> {
     let (script, rule, budget) = *setting;
     if budget == 0 || budget > 1_000_000 {

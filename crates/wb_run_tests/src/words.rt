@@ -1,4 +1,5 @@
-//! Tests that command lines are accepted at all. No clause says so, since memory may run out at any growth.
+//! Tests that the program accepts command lines at all. No contract promises that the program accepts a command line, because memory may
+//! run out whenever memory is needed.
 
 use crate::rules::Refuses;
 use crate::tasks::Asks;
@@ -14,7 +15,7 @@ type Lengths = (u32, u32);
 
 const DEFAULT: Lengths = (4096, 4096);
 
-/// Which of the flags that every subcommand takes are given.
+/// Which of the flags that every subcommand takes are in the command line.
 #[derive(Clone, Copy)]
 enum Flags {
     None,
@@ -23,7 +24,7 @@ enum Flags {
     MovingAndJson,
 }
 
-/// The subcommands, and what each asks for where no option is given.
+/// The subcommands, each with the task that it has without options.
 static SUBCOMMANDS: [(&str, Asks); 5] = [
     ("run", Asks::Run(Refuses::Nothing)),
     ("size", Asks::Size),
@@ -35,10 +36,10 @@ static SUBCOMMANDS: [(&str, Asks); 5] = [
     ("check", Asks::Check(Search::Least(Failures::Single))),
 ];
 
-/// The budget, the heap's lengths, the flags, and the file.
+/// What options spell: the budget, the heap's lengths, the flags, and the file.
 type Spelled = (u32, Lengths, Flags, Option<&'static str>);
 
-/// Words that every subcommand takes, and what they spell.
+/// Words that every subcommand takes, each row with what the words spell.
 static AFTER_EACH: [(&[&str], Spelled); 20] = [
     (&[], (10_000, DEFAULT, Flags::None, None)),
     (&["--"], (10_000, DEFAULT, Flags::None, None)),
@@ -98,7 +99,7 @@ static AFTER_EACH: [(&[&str], Spelled); 20] = [
     ),
 ];
 
-/// Words that spell a run with the default budget and without these flags; then the run's rule, its heap's lengths and its file.
+/// Words that spell a run with the default budget and without flags. Each row also has the run's rule, its heap's lengths, and its file.
 static RUNS: [(&[&str], Refuses, Lengths, Option<&str>); 28] = [
     (
         &["workbench", "run", "a.oom"],
@@ -279,7 +280,7 @@ static RUNS: [(&[&str], Refuses, Lengths, Option<&str>); 28] = [
     ),
 ];
 
-/// The flags of `sweep` and `check` that say what is searched for, and what each asks for.
+/// The flags of `sweep` and `check` that say what is searched for, each row with the search that the flags spell.
 static WITH_FLAGS: [(&[&str], Search); 15] = [
     (&["--all"], Search::All(Failures::Single)),
     (&["--ends"], Search::Ends(Failures::Single)),
@@ -331,8 +332,7 @@ fn takes_words_after_each_subcommand(rt: HostRuntime) -> Result<(), Fail> {
     Ok(())
 }
 
-/// The flags come first, before the words that every subcommand takes, to show that a flag doesn't take the word after it as a number of
-/// its own.
+/// The flags come before the words that every subcommand takes. So the test shows that a flag doesn't take the word after it as a number.
 #[test]
 fn takes_flags_for_failures(rt: HostRuntime) -> Result<(), Fail> {
     for (row, (flags, search)) in WITH_FLAGS.iter().enumerate() {
@@ -369,7 +369,7 @@ fn takes_words_of_a_run(rt: HostRuntime) -> Result<(), Fail> {
     Ok(())
 }
 
-/// Whether the words are rejected, with a text by `clap` that contains `part`.
+/// Whether the program rejects the words with a text of `clap` that contains `part`.
 fn is_refused(alloc: Global, words: &[&str], part: &str) -> Result<bool, Fail> {
     match command(alloc, words) {
         Err(CommandFault::Usage(error)) => Ok(error.to_string(alloc)?.as_str().contains(part)),
@@ -377,7 +377,7 @@ fn is_refused(alloc: Global, words: &[&str], part: &str) -> Result<bool, Fail> {
     }
 }
 
-/// No words at all, not even the program's name.
+/// The command line has no words at all, not even the program's name.
 #[test]
 fn refuses_no_words(rt: HostRuntime) -> Result<(), Fail> {
     assert!(rt; is_refused(rt.alloc(), &[], "requires a subcommand")?);

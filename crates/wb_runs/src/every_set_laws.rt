@@ -1,5 +1,5 @@
-//! Laws of sweeps over all sets of a part, however many attempts a set has. Each is the contract of a function that does nothing, so
-//! that the gate proves it.
+//! Laws of sweeps over all sets of a part, however many attempts a set has. Each law is the contract of a function that does nothing, so
+//! that checking the function proves the law.
 
 ghost use Rattle.std.specs.Prelude.{◌≡◌, ◌≤◌, ◌↔◌, ℕ, List, true};
 ghost use Rattle.wb_runs.specs.EverySet.{IsEverySetAnswerIn, IsLeastSetCutIn, IsLeastSetFoundIn};
@@ -19,8 +19,8 @@ ghost use Rattle.wb_meaning.specs.declared.run.RunResult.{RunResult};
 ghost use Rattle.wb_meaning.specs.declared.run.Why.{Why};
 ghost use Rattle.wb_tree.specs.declared.script.Script.{Script};
 
-/// If a part begins with number 0 and goes at least to the last attempt of the run without failure, a sweep over its sets answers what a
-/// sweep over all sets answers.
+/// Let a part have all numbers from 0 to the last attempt of the run without failure. Then a sweep over the part's sets has the same answer
+/// as a sweep over all sets.
 pub fn a_whole_part_has_every_set()
     ensures found { (part : Part) (script : Script) (budget : ℕ) (shape : Shape)
         (numbers : List ℕ) (result : RunResult) → part.from ≡ 0 →
@@ -37,7 +37,7 @@ pub fn a_whole_part_has_every_set()
         IsNoSetOfAnySizeIn part script budget shape ↔ AreAllSetsFine script budget shape }
 {}
 
-/// A sweep over all sets of a part has one answer, and the lesser of the answers of two parts is that of both parts together.
+/// A sweep over all sets of a part has only one answer. The lesser of the answers for two parts is the answer for both parts together.
 pub fn parts_of_every_set_have_one_answer()
     ensures one { (part : Part) (script : Script) (budget : ℕ) (shape : Shape)
         (answer another : SetAnswer) → IsEverySetAnswerIn part script budget shape answer →
@@ -49,8 +49,8 @@ pub fn parts_of_every_set_have_one_answer()
         IsEverySetAnswerIn both script budget shape (least_set_of answer another) }
 {}
 
-/// If no set of failures shows a leak, a panic or a cut, no run under any rule does. So no heap length shows a leak or a panic, and no
-/// sweep of any kind over any part finds anything.
+/// If no set of failures shows a leak, a panic or a cut, then no run under any rule leaks, panics or is cut. So no heap length shows a leak
+/// or a panic, and no sweep of any kind over any part finds anything.
 pub fn nothing_shows_where_no_set_does()
     ensures run { (script : Script) (budget : ℕ) (shape : Shape) (r : Rule) →
         AreAllSetsFine script budget shape → is_fine (run script r budget shape) ≡ true }

@@ -1,4 +1,4 @@
-//! Which failures a sweep tries, and how it names one of them.
+//! Which failures a sweep tries, and how it names a single failure.
 
 ghost use Rattle.std.specs.Prelude.{◌≡◌};
 ghost use Rattle.wb_runs.specs.Sweeps.{failing_at, rule_for};
@@ -19,8 +19,8 @@ pub enum Failures {
 }
 
 impl Failures {
-    /// Returns the failure that is tried for the number or rate `n`; for `Pairs` it is a single failure, since these are tried before any
-    /// pair. For `n` 0, each kind gives the run without failure.
+    /// Returns the failure that is tried for the number or rate `n`. For `Pairs`, this is a single failure, because single failures are
+    /// tried before any pair. If `n` is 0, no attempt fails.
     pub fn at(self, n: u32) -> Failing
         ensures { result ≡ failing_at self n }
     {
@@ -35,18 +35,18 @@ impl Failures {
 /// A failure: which attempts the rule of a run makes fail.
 #[derive(Clone, Copy, Debug, PartialEq, Eq)]
 pub enum Failing {
-    /// The attempt with this number fails. Attempts count from 1, so with number 0 none fails.
+    /// The attempt with this number fails. Attempts count from 1, so with number 0 no attempt fails.
     Number(u32),
-    /// Each attempt whose number is a multiple of this rate fails; with rate 0 none fails.
+    /// Each attempt whose number is a multiple of this rate fails; with rate 0 no attempt fails.
     Every(u32),
-    /// The attempts with these two numbers fail. The second number is the greater.
+    /// The attempts with these two numbers fail. The second number is greater than the first.
     Pair(u32, u32),
-    /// Each attempt whose number is this or greater fails; with number 0 none fails.
+    /// The attempt with this number and all later attempts fail; with number 0 no attempt fails.
     From(u32),
 }
 
 impl Failing {
-    /// Returns the rule that makes exactly these attempts fail.
+    /// Returns the rule that makes exactly the attempts of this failure fail.
     pub fn rule(self) -> Rule
         ensures { result ≡ rule_for self }
     {

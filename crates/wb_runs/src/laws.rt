@@ -1,4 +1,4 @@
-//! Laws of the definitions. Each is the contract of a function that does nothing, so that the gate proves it.
+//! Laws of the definitions. Each law is the contract of a function that does nothing, so that checking the function proves the law.
 
 ghost use Rattle.std.specs.Prelude.{◌≡◌, ◌≢◌, ℕ, ℤ, ◌+◌, ◌-◌, ◌%◌, ◌<◌, ◌≤◌, ◌↔◌, List, Option, Some, None, false};
 ghost use Rattle.std.specs.Prelude.{true, [], IsTrue, nat_eq, length, take, drop, slice_get, slice_index, All};
@@ -43,29 +43,29 @@ ghost use Rattle.wb_meaning.specs.declared.run.Outcome.TheVariants.{Ended, Cut};
 ghost use Rattle.wb_meaning.specs.declared.run.Why.TheVariants.{Ceiling};
 ghost use Rattle.wb_tree.specs.declared.script.Script.{Script};
 
-/// The place of a request is the least multiple of 16 at which the bytes of its cell meet no cell of the row.
+/// A request's place is the least multiple of 16 at which the bytes of its cell overlap no cell of the row.
 pub fn place_is_least()
     ensures { (row : List Header) (length : ℕ) → 0 < length → IsSpacedFrom 0 row →
         IsLeastPlace row length (place_of row length) }
 {}
 
-/// The script's own setting for the k-th next attempt makes this attempt fail and no other; its setting for every k-th attempt makes those
-/// fail whose count since the setting is a multiple of k.
+/// A script's setting for the k-th next attempt makes only this attempt fail. A script's setting for every k-th attempt makes an attempt
+/// fail exactly if the attempt's position, counted from the setting, is a multiple of k.
 pub fn settings_refuse()
     ensures next { (k n : ℕ) → is_due (after_attempts n (next k)) ≡ nat_eq k (n + 1) }
     ensures every { (k n : ℕ) → 1 ≤ k →
         is_due (after_attempts n (each k k)) ≡ nat_eq ((n + 1) % k) 0 }
 {}
 
-/// The free runs below a committed length are the bytes that the cells leave free: the lengths of runs and cells add up to the committed
-/// length, the longest run is a stretch of bytes that no cell meets, and no such stretch is longer.
+/// The free runs below a committed length are the bytes that the cells leave free. The lengths of free runs and cells add up to the
+/// committed length. The longest free run is a stretch of bytes that no cell overlaps, and no such stretch is longer.
 pub fn free_runs_are()
     ensures { (row : List Header) (committed : ℕ) → IsSpacedFrom 0 row → top_of row ≤ committed →
         AreFreeRuns row committed (free_runs 0 row committed) }
 {}
 
-/// A part of a text reads as exactly as many units as it is long, each of them the base's unit at that position, or zero past the base's
-/// end. A part of a part reads as that stretch of the larger part, whatever the base holds.
+/// A part of a base text reads as exactly as many units as the part is long. Each unit of the part is the base's unit at the corresponding
+/// position, or zero past the base's end. A part of a part reads as the corresponding stretch of the larger part, whatever the base holds.
 pub fn parts_are_read()
     ensures long { (base : List ℕ) (from count : ℕ) →
         length (units_of_part base from count) ≡ count }
@@ -75,16 +75,18 @@ pub fn parts_are_read()
         units_of_part base (from + at) n ≡ take n (drop at (units_of_part base from count)) }
 {}
 
-/// The Agreement law: two rules, of which the second refuses at least what the first refuses, give the same run up to the first attempt
-/// that they answer differently, unless the ceiling cuts the first run. Notes may differ if one of the rules is a limit.
+/// The Agreement law compares the runs under two rules, if the second rule refuses at least what the first refuses. Both runs are the same
+/// up to the first attempt that the rules answer differently, unless the ceiling cuts the first run. Notes may differ if one of the rules
+/// is a limit.
 pub fn rules_agree()
     ensures { (script : Script) (budget : ℕ) (shape : Shape) (r : Rule) (s : Rule) →
         Agrees script budget shape r s }
 {}
 
-/// The trace of a run has one line for each attempt that the run asks for, in order and numbered from 1, except for one that the ceiling
-/// cuts. A granted attempt is one that the rule doesn't refuse and whose cell ends within the ceiling; the cell of a refused one would end
-/// past the limit that the rule sets; a simulated one is refused by the script's own setting, or by the rule.
+/// The trace of a run has one line for each attempt that the run asks for, in order and numbered from 1. Only an attempt at which the
+/// ceiling cuts the run has no line. If a line says `Granted`, the rule lets the attempt succeed, and the attempt's cell ends within the
+/// ceiling. If a line says `Refused`, the cell would end past the rule's limit. If a line says `Simulated`, the script's own setting or the
+/// rule makes the attempt fail.
 pub fn lines_are_answered()
     ensures lines { (script : Script) (budget : ℕ) (shape : Shape) (r : Rule) →
         AreAnsweredLines r 0 (asked_for r 0 (process script budget (placement_of shape)))
@@ -95,8 +97,8 @@ pub fn lines_are_answered()
         TellsSettings (process script budget placement) }
 {}
 
-/// The first refusal computed from a trace is the number of the first line that the heap's limit refused, `None` if there is no such line;
-/// the highest end is the greatest end of a granted line.
+/// The first refusal computed from a trace is the number of the first line that the heap's limit refused, or `None` if there is no such
+/// line. The highest end computed from a trace is the greatest end of a granted line.
 pub fn traces_are_measured()
     ensures refused { (trace : List Attempt) (number : ℕ) →
         (first_refusal trace ≡ Some number) ↔ IsFirstRefused trace number }
@@ -104,9 +106,10 @@ pub fn traces_are_measured()
     ensures end { (trace : List Attempt) → IsGreatestEnd trace (highest_end trace) }
 {}
 
-/// A run that keeps only its rises comes to the same as the run that keeps a line of each attempt, except for the trace: both make the same
-/// number of attempts, and the rises are those of that trace. The same holds of a debug heap, when it is made and after each attempt. The
-/// top of the last rise is the greatest end of a granted line.
+/// Except for the trace, a run that keeps only its rises has the same result as the run that keeps a line for each attempt. Both runs make
+/// the same number of attempts, and the kept rises are the rises of the other run's trace. A debug heap that keeps only rises equals, in
+/// the same way, a debug heap that keeps lines, at first and after each attempt. The top of the last rise is the greatest end of a granted
+/// line.
 pub fn rises_are_kept()
     ensures runs { (script : Script) (budget : ℕ) (shape : Shape) (r : Rule) →
         whole_run true script r budget shape ≡ run_with_rises (run script r budget shape) }
@@ -119,9 +122,9 @@ pub fn rises_are_kept()
     ensures top { (trace : List Attempt) → top_of_rises (rises_above 0 trace) ≡ highest_end trace }
 {}
 
-/// If the ceiling doesn't cut the run without a limit, the rises of this run tell which attempt a heap of each length denies first. They
-/// name none exactly for lengths from the required length on, in which the run is the one without a limit, except for notes. The required
-/// length is at most the ceiling.
+/// If the ceiling doesn't cut the run without a limit, the rises of this run show which attempt a heap of each length refuses first. The
+/// rises show no refused attempt for a heap exactly if the heap has at least the required length. The run in a heap of at least the
+/// required length is the run without a limit, except for notes. The required length is at most the ceiling.
 pub fn limits_refuse()
     ensures first { (script : Script) (budget : ℕ) (shape : Shape) (length : ℕ) →
         (run script Unlimited budget shape).outcome ≢ Cut Ceiling →
@@ -142,9 +145,10 @@ pub fn limits_refuse()
         required script budget shape ≤ CEILING }
 {}
 
-/// Two rules, of which the first is no limit and the second refuses at least what the first refuses, but nothing that is
-/// granted in the run under the first, give the same run. So the numbers, and the rates, past the last attempt of the run
-/// without failure give that run.
+/// Let the first of two rules set no limit. Let the second rule refuse at least what the first refuses, but nothing that the run under the
+/// first rule is granted. Then both rules give the same run, provided that the ceiling doesn't cut the run under the first rule. So if the
+/// ceiling doesn't cut the run without failure, each number or rate past the last attempt of the run without failure gives the run without
+/// failure.
 pub fn unasked_rules_agree()
     ensures rules { (script : Script) (budget : ℕ) (shape : Shape) (r : Rule) (s : Rule) →
         IsNoLimit r → RefusesAtLeast r s → (run script r budget shape).outcome ≢ Cut Ceiling →
@@ -156,8 +160,8 @@ pub fn unasked_rules_agree()
         runs_of failures script budget shape n ≡ runs_of failures script budget shape 0 }
 {}
 
-/// What is found among the numbers, or the rates, up to the last attempt of the run without failure is, of all of them, the
-/// least whose run is bad or cut; if there is none, the run of each is fine.
+/// Take the numbers, or rates, up to the last attempt of the run without failure. A search through these numbers finds the least of all
+/// numbers whose run is bad or cut. If the search finds no number, the run of every number is fine.
 pub fn sweeps_end()
     ensures some { (failures : Failures) (script : Script) (budget : ℕ) (shape : Shape) (n : ℕ) →
         (least_bad_or_cut failures script budget shape ≡ Some n)
@@ -167,10 +171,10 @@ pub fn sweeps_end()
         ↔ AreAllFine (runs_of failures script budget shape) }
 {}
 
-/// At every moment of a run of any script the live cells are a row, whatever is answered to its attempts. The cells of a row ascend without
-/// overlapping, at multiples of 16, and no two have the same number. Here each number is that of an attempt made before, and each cell
-/// holds what its kind says: an object, for example, has a pointer for each field of its class. So the leaks that a run reports are cells
-/// of a row.
+/// At every moment of a run of any script the live cells are a row, whichever of the run's attempts fail. The cells of a row ascend without
+/// overlapping, at multiples of 16, and no two cells have the same number. Each cell's number is the number of an attempt already made.
+/// Each cell holds what its kind says: an object, for example, has a pointer for each field of its class. So the leaks that a run reports
+/// are cells of a row.
 pub fn cells_stay_a_row()
     ensures throughout { (script : Script) (budget : ℕ) (shape : Shape) →
         Throughout (λ made st. AreCellsAfter script made st.heap.row) 0
@@ -187,8 +191,8 @@ pub fn printed_lines_are_ascii()
 {}
 
 /// Whenever a run of any script asks for an attempt, comes to a plain end or returns, the cleanup stack has fewer items than slots. A
-/// statement, or the rest of a block, that begins with a free slot goes on with a free slot, too. From this it follows, statement by
-/// statement, that each push finds a free slot.
+/// statement, or the rest of a block, that begins with a free slot also goes on with a free slot. So, statement by statement, each push
+/// finds a free slot.
 pub fn a_slot_stays_free()
     ensures run { (script : Script) (budget : ℕ) (placement : Placement) →
         WhereverItGoesOn HasFreeSlot (process script budget placement) }
@@ -196,14 +200,14 @@ pub fn a_slot_stays_free()
         HasFreeSlot st → WhereverItGoesOn HasFreeSlot (meaning_of script budget at p st) }
 {}
 
-/// The meaning of a piece of a script is its first step, and then the meaning of what is left to do, unless the budget is passed.
+/// Unless the budget is passed, the meaning of a piece of a script is its first step, followed by the meaning of what is left to do.
 pub fn meaning_unfolds()
     ensures { (script : Script) (budget : ℕ) → Unfolds script budget }
 {}
 
-/// If no operation and no destructor of a script has a statement that can leave, the destruction of items, or of an object, asks for no
-/// attempt, and neither leaves nor returns. It may panic, or be cut at the budget. If it goes on, the destroyed items are off the cleanup
-/// stack, and no others are.
+/// Let no operation and no destructor of a script have a statement that can leave. Then a destruction of items or of an object asks for no
+/// attempt, and neither leaves nor returns. The destruction may panic, or be cut at the budget. If the destruction goes on to its end,
+/// exactly the destroyed items are off the cleanup stack.
 pub fn destructions_never_leave()
     ensures items { (script : Script) (budget : ℕ) (at : Context) (n : ℕ) (st : State) →
         IsTrue (is_quiet script) →

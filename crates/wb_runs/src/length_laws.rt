@@ -1,4 +1,5 @@
-//! Laws of runs in heaps of every length. Each is the contract of a function that does nothing, so that the gate proves it.
+//! Laws of runs in heaps of every length. Each law is the contract of a function that does nothing, so that checking the function proves
+//! the law.
 
 ghost use Rattle.std.specs.Prelude.{◌≡◌, ◌≢◌, ℕ, ◌≤◌, List};
 ghost use Rattle.wb_meaning.specs.Agreement.{IsSameButNotes};
@@ -20,9 +21,10 @@ ghost use Rattle.wb_meaning.specs.declared.run.Why.TheVariants.{Ceiling};
 ghost use Rattle.wb_runs.specs.declared.run_end.RunEnd.{RunEnd};
 ghost use Rattle.wb_tree.specs.declared.script.Script.{Script};
 
-/// In a heap no longer than the ceiling, the ceiling cuts no run, since the heap's limit is asked first. Every cell that a heap grants ends
-/// within the heap. If no granted cell of the longer of two heaps ends past the length of the shorter one, both give the same run, except
-/// for notes: a cell that the longer heap denies would end past both, and a cell that it grants fits into both.
+/// In a heap no longer than the ceiling, the ceiling cuts no run, because the heap's limit is tested first. Every cell that a heap grants
+/// ends within the heap. Take two heaps no longer than the ceiling. If no granted cell of the longer heap ends past the length of the
+/// shorter heap, both heaps give the same run, except for notes. A cell that the longer heap refuses would end past the ends of both heaps,
+/// and a cell that the longer heap grants fits into both.
 pub fn heaps_agree()
     ensures uncut { (script : Script) (budget : ℕ) (shape : Shape) (length : ℕ) →
         length ≤ CEILING → (run_in script budget shape length).outcome ≢ Cut Ceiling }
@@ -34,8 +36,8 @@ pub fn heaps_agree()
         IsSameButNotes (run_in script budget shape longer) (run_in script budget shape length) }
 {}
 
-/// There is one right table of lengths. If the ceiling doesn't cut the run without a limit, its last range begins at the required
-/// length at most: from there on nothing changes.
+/// There is only one right table of lengths. If the ceiling doesn't cut the run without a limit, the table's last range begins at or below
+/// the required length. From the required length on, nothing changes.
 pub fn tables_are_one()
     ensures one { (end_at : ℕ → RunEnd) (most from : ℕ) (table other : List LengthRange) →
         IsTableFrom end_at most from table → IsTableFrom end_at most from other →
@@ -46,8 +48,8 @@ pub fn tables_are_one()
         last_from 0 table ≤ required script budget shape }
 {}
 
-/// The search for the least length whose run leaks or panics has at most one answer: that length and its run, or that there is no such
-/// length.
+/// The search for the least length whose run leaks or panics has at most one answer. The answer is this length and its run, or that there
+/// is no such length.
 pub fn lengths_answer_once()
     ensures found { (script : Script) (budget : ℕ) (shape : Shape) (length other : ℕ)
         (result another : RunResult) →

@@ -3,12 +3,12 @@
 use crate::run_end::RunEnd;
 use wb_basics::items::Items;
 
-/// A range of heap lengths in which a script's runs end alike. It reaches up to where the next range begins.
+/// A range of heap lengths in which a script's runs end alike. The range ends where the next range begins.
 #[derive(Clone, Copy, Debug, PartialEq, Eq)]
 pub struct LengthRange {
     /// The least length of the range, in bytes.
     pub from: u32,
-    /// How the runs in these lengths end.
+    /// How the runs in heaps of these lengths end.
     pub end: RunEnd,
 }
 

@@ -1,4 +1,4 @@
-//! Many runs: what sizes, sweeps, sets, parts and lengths say of a script, and the laws of runs and of these answers.
+//! Many runs of a script: the answers that sizes, sweeps, sets, parts and lengths give, and the laws of runs and of these answers.
 #![tactic(auto)]
 
 pub mod every_set_laws;

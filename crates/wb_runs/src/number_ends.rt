@@ -1,10 +1,11 @@
-//! How the runs under several failures ended: what a sweep reports that tries each of its numbers and doesn't stop at a bad one.
+//! Lists of how the runs under several failures ended. A sweep that doesn't stop at a bad number, but tries all its numbers, reports such a
+//! list.
 
 use crate::run_end::RunEnd;
 use wb_basics::items::Items;
 
-/// How the run under one failure ended. `number` is that of the attempt that fails or from which on all fail, or the rate at which attempts
-/// fail.
+/// How the run under one failure ended. `number` is the number of the only attempt that fails, the number from which on all attempts fail,
+/// or the rate at which attempts fail.
 #[derive(Clone, Copy, Debug, PartialEq, Eq)]
 pub struct NumberEnd {
     pub number: u32,

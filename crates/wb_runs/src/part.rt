@@ -2,8 +2,8 @@
 
 use wb_basics::limits::CEILING;
 
-/// The attempt numbers or rates that a sweep tries: all from `from` to `to`, both included. Of pairs and larger sets a sweep tries those
-/// whose least number is one of these. Source: this project's profile.
+/// The attempt numbers or rates that a sweep tries: all from `from` to `to`, both included. A sweep tries a pair or a larger set if the
+/// least number of the pair or set is in this range. Source: this project's profile.
 #[derive(Clone, Copy, Debug, PartialEq, Eq)]
 pub struct Part {
     /// The least number that is tried. Number 0 stands for the run without failure.

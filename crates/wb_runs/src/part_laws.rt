@@ -1,4 +1,5 @@
-//! Laws of sweeps over parts of the numbers. Each is the contract of a function that does nothing, so that the gate proves it.
+//! Laws of sweeps over parts of the numbers. Each law is the contract of a function that does nothing, so that checking the function proves
+//! the law.
 
 ghost use Rattle.std.specs.Prelude.{◌≡◌, ◌+◌, ◌++◌, ◌≤◌, ◌↔◌, ℕ, List, Some, None};
 ghost use Rattle.wb_runs.specs.AllNumbers.{bad_count, first_bad, unfine_in, IsLeastBadOf, IsNoBadOf};
@@ -14,8 +15,8 @@ ghost use Rattle.wb_meaning.specs.declared.run.RunResult.{RunResult};
 ghost use Rattle.wb_meaning.specs.declared.run.Why.{Why};
 ghost use Rattle.wb_tree.specs.declared.script.Script.{Script};
 
-/// If a part begins with number 0 and goes at least to the last attempt of the run without failure, a sweep over it answers what a sweep
-/// over all failures answers.
+/// Let a part have all numbers from 0 to the last attempt of the run without failure. Then a sweep over the part has the same answer as a
+/// sweep over all failures.
 pub fn a_whole_part_is_all()
     ensures found { (failures : Failures) (part : Part) (script : Script) (budget : ℕ)
         (shape : Shape) (at : Failing) (result : RunResult) → part.from ≡ 0 →
@@ -32,7 +33,8 @@ pub fn a_whole_part_is_all()
         IsNoneIn failures part script budget shape ↔ IsNoneFound failures script budget shape }
 {}
 
-/// A sweep over a part has one answer: one failure is found, with the run under it, or one is cut, in one way, or none is.
+/// A sweep over a part has only one answer. The answer is a failure with its bad run, a failure with the reason why its run is cut, or that
+/// each tried run is fine.
 pub fn a_part_has_one_answer()
     ensures one { (failures : Failures) (part : Part) (script : Script) (budget : ℕ)
         (shape : Shape) (answer another : Answer) →
@@ -40,8 +42,8 @@ pub fn a_part_has_one_answer()
         IsAnswerIn failures part script budget shape another → answer ≡ another }
 {}
 
-/// The lesser of the answers to two parts is the answer to both parts together. So if parts cover all numbers, the least of their answers
-/// is the answer to the whole.
+/// The lesser of the answers for two parts is the answer for both parts together. So if several parts cover all numbers, the least of their
+/// answers is the answer for all numbers.
 pub fn the_least_is_of_both()
     ensures least { (failures : Failures) (part next both : Part) (script : Script) (budget : ℕ)
         (shape : Shape) (answer another : Answer) → AreTogether part next both →
@@ -51,8 +53,8 @@ pub fn the_least_is_of_both()
     ensures row { (part next both : Part) → AreInARow part next both → AreTogether part next both }
 {}
 
-/// If one part begins just after another ends, the bad or cut numbers of both together are those of the first, followed by those of the
-/// second. The counts of bad numbers in two such lists add up.
+/// Let one part end just before the next part begins. Then the list of both parts' bad or cut numbers is the earlier part's list, followed
+/// by the later part's list. The count of bad numbers in two joined lists is the sum of both lists' counts.
 pub fn lines_of_parts_add_up()
     ensures lines { (runs : ℕ → RunResult) (part next both : Part) → AreInARow part next both →
         unfine_in runs both ≡ unfine_in runs part ++ unfine_in runs next }
@@ -60,8 +62,8 @@ pub fn lines_of_parts_add_up()
         bad_count (ends ++ more) ≡ bad_count ends + bad_count more }
 {}
 
-/// The first number that a part's list names as bad is the least number of the part whose run leaks or panics; if the list names none as
-/// bad, the part has no such number.
+/// If a part's list names numbers as bad, the first number that it names as bad is the least number of the part whose run leaks or panics.
+/// If the list names no number as bad, no number of the part has a run that leaks or panics.
 pub fn the_first_is_the_least()
     ensures some { (runs : ℕ → RunResult) (part : Part) (number : ℕ) →
         first_bad (unfine_in runs part) ≡ Some number →

@@ -1,5 +1,5 @@
-//! Laws of runs whose states are the same except for allocation numbers. Each is the contract of a function that does nothing, so that the
-//! gate proves it.
+//! Laws of runs whose states are the same except for allocation numbers. Each law is the contract of a function that does nothing, so that
+//! checking the function proves the law.
 
 ghost use Rattle.std.specs.Prelude.{◌≡◌, ◌≢◌, ℕ, ◌≤◌, ◌↔◌};
 ghost use Rattle.wb_heap_model.specs.Space.{Space};
@@ -25,9 +25,9 @@ ghost use Rattle.wb_meaning.specs.declared.run.RunResult.{RunResult};
 ghost use Rattle.wb_meaning.specs.declared.run.Why.TheVariants.{Budget};
 ghost use Rattle.wb_tree.specs.declared.script.Script.{Script};
 
-/// Two runs whose states are the same except for allocation numbers ask for the same attempts from there on, and come to the same except
-/// for these numbers, whatever is answered, until the budget cuts the run that has counted more steps. Either run may be taken as the
-/// first: the map from one run's numbers to the other's is then read backwards.
+/// Two runs whose states are the same except for allocation numbers ask for the same attempts from there on, whatever answers the attempts
+/// get. Except for allocation numbers, both runs come to the same result, until the budget cuts the run that has counted more steps. Either
+/// run may be the first of the two: the map from one run's numbers to the other's is then read backwards.
 pub fn renamed_runs_follow()
     ensures follows { (script : Script) (budget further : ℕ) (w : Renaming) (p other : Progress) →
         AreBeside budget further w p other →
@@ -37,9 +37,10 @@ pub fn renamed_runs_follow()
         IsRenaming (turned w) × IsSameProgress (turned w).names other p }
 {}
 
-/// Let the rules of two such runs say the same of the attempts that are still to be made. Then the second comes to what the first
-/// comes to, with as many steps and attempts from there on. Only where the budget doesn't allow it these steps, it is cut by the budget.
-/// That holds where the second has counted no fewer steps, and where the budget doesn't cut the first.
+/// Let the states of two runs be the same except for allocation numbers, and let their rules treat the attempts still to be made alike.
+/// Then, from there on, the second run comes to what the first run comes to, in as many further steps and attempts. If the budget doesn't
+/// allow the second run that many steps, the budget cuts the second run instead. The law holds if the second run has counted no fewer steps
+/// than the first run, and also if the budget doesn't cut the first run.
 pub fn renamed_runs_agree()
     ensures further { (script : Script) (budget further : ℕ) (shape other_shape : Shape)
         (r s : Rule) (w : Renaming) (p other : Progress) (a b : Account) →
@@ -59,15 +60,15 @@ pub fn renamed_runs_agree()
         (rest script budget other_shape s other b) }
 {}
 
-/// Outcomes that are the same except for the allocation numbers of leaks give the same `RunEnd`, and are judged alike: as bad or not, and
-/// as fine or not.
+/// Outcomes that are the same except for the allocation numbers of leaks give the same `RunEnd`. Either both outcomes are bad or neither
+/// is, and either both are fine or neither is.
 pub fn renamed_outcomes_are_judged_alike()
     ensures words { (one other : Outcome) → IsSameOutcome one other → end_of other ≡ end_of one }
     ensures judged { (x y : RunResult) → IsSameOutcome x.outcome y.outcome →
         (is_bad y ≡ is_bad x) × (is_fine y ≡ is_fine x) }
 {}
 
-/// If two rules name only attempts that were made already, they say the same of all attempts still to be made: that none fails.
+/// If two rules name only attempts that were already made, neither rule makes a later attempt fail.
 pub fn failures_lie_behind()
     ensures numbers { (here there : Reached) (i j : ℕ) →
         i ≤ here.attempts → j ≤ there.attempts →
@@ -77,8 +78,8 @@ pub fn failures_lie_behind()
         RefusesAlike (Number i) (Pair j k) here there }
 {}
 
-/// Two runs were one run up to an attempt. Then the numbers up to that one stand for themselves, and pairs of later ones may be added,
-/// each of which is new on both sides.
+/// Let two runs be the same up to some attempt. The map from one run's numbers to the other's takes each number up to this attempt to
+/// itself. Pairs of later numbers may be added to the map if no two different pairs among them share their first or their second number.
 pub fn forked_runs_are_renamed()
     ensures renamed { (since made other_made : ℕ) (added : Names) →
         AreAddedSince since added made other_made →
@@ -87,9 +88,9 @@ pub fn forked_runs_are_renamed()
         (Renames (up_to since) a b) ↔ ((a ≡ b) × (a ≤ since)) }
 {}
 
-/// If the state of a run, or the state in which a statement begins, holds only numbers of attempts made so far, so does the state that it
-/// comes to. So the invariant that no number is greater than the number of attempts made can be carried from one turn of the machine to the
-/// next.
+/// Let the state of a run, or the state in which a statement begins, hold only numbers of attempts made so far. Then the state that the run
+/// or the statement comes to also holds only numbers of attempts made so far. So each turn of the machine keeps the invariant that no
+/// number is greater than the number of attempts made.
 pub fn held_numbers_were_made()
     ensures runs { (script : Script) (budget : ℕ) (r : Rule) (space : Space) (p : Progress)
         (a : Account) → IsSameProgress (up_to a.attempts) p p → steps_of p ≤ budget →

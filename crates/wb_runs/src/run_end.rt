@@ -1,7 +1,9 @@
-//! How a run ended, as one small value. Tables of many runs hold it in place of an `Outcome`.
+//! How a run ended, as one small value. Tables of many runs hold this value in place of an `Outcome`.
 
-ghost use Rattle.std.specs.Prelude.{◌≡◌};
+ghost use Rattle.std.specs.Prelude.{◌≡◌, ◌&&◌, not};
+ghost use Rattle.wb_meaning.specs.Run.{is_bad_outcome};
 ghost use Rattle.wb_runs.specs.RunEnds.{end_of, is_bad_end, is_cut_end};
+ghost use Rattle.wb_runs.specs.Sweeps.{is_cut_outcome};
 
 use wb_heap_model::heap::Panic;
 use wb_meaning::run::{Outcome, Why};
@@ -12,7 +14,7 @@ pub enum RunEnd {
     /// The attempt to get the cleanup stack's own cell failed, so `main` did not begin.
     NoCleanup,
     Panicked(Panic),
-    /// `main` ended, plainly or by a leave, and this many cells leaked, at least one.
+    /// `main` ended, plainly or by a leave. This many cells leaked; the number is at least 1.
     Leaked(usize),
     /// `main` ended by a leave with this code, and nothing leaked.
     Left(i32),
@@ -50,5 +52,17 @@ impl RunEnd {
         ensures { result ≡ is_cut_end self }
     {
         matches!(self, RunEnd::Cut(_))
+    }
+}
+
+/// Whether a run with this outcome is fine: whether it neither leaked nor panicked, and wasn't cut. A run that only leaves is fine, and so
+/// is a run that gets no cleanup stack.
+pub fn is_fine(outcome: &Outcome) -> bool
+    ensures { result ≡ (not (is_bad_outcome outcome.now) && not (is_cut_outcome outcome.now)) }
+{
+    match outcome {
+        Outcome::Ended { leaks, .. } => leaks.len() == 0,
+        Outcome::Panicked(_) | Outcome::Cut(_) => false,
+        Outcome::NoCleanup => true,
     }
 }

@@ -1,5 +1,5 @@
-//! Laws of runs in which the attempts of a set fail, however many. Each is the contract of a function that does nothing, so that
-//! the gate proves it.
+//! Laws of runs in which the attempts of a set fail, however many attempts the set has. Each law is the contract of a function that does
+//! nothing, so that checking the function proves the law.
 
 ghost use Rattle.std.specs.Prelude.{◌≡◌, ◌≢◌, ℕ, ◌≤◌, List, [], ◌∷◌, ◌++◌, false, length, true};
 ghost use Rattle.wb_runs.specs.Pairs.{pair_run};
@@ -14,8 +14,8 @@ ghost use Rattle.wb_meaning.specs.declared.run.Outcome.TheVariants.{Cut};
 ghost use Rattle.wb_meaning.specs.declared.run.Why.TheVariants.{Ceiling};
 ghost use Rattle.wb_tree.specs.declared.script.Script.{Script};
 
-/// The run under the empty set is the run under number 0, the run under a set of one attempt is the run under its number, and the run under
-/// a set of two is the run under their pair.
+/// The run under the empty set is the run under number 0. The run under a set of one attempt is the run under the attempt's number. The run
+/// under a set of two attempts is the run under the pair of their numbers.
 pub fn small_sets_are_failures()
     ensures none { (script : Script) (budget : ℕ) (shape : Shape) →
         set_run script budget shape [] ≡ runs_of Single script budget shape 0 }
@@ -25,9 +25,9 @@ pub fn small_sets_are_failures()
         set_run script budget shape (i ∷ j ∷ []) ≡ pair_run script budget shape i j }
 {}
 
-/// Adding to a set attempts past the last one that the run under the set makes doesn't change this run, unless the ceiling cuts it. Some
-/// sets name only attempts that are made: each one in the run in which the attempts before it in the set fail. If the runs of all these
-/// sets are fine, the runs of all sets are; and the least set whose run isn't fine is one of them.
+/// If attempts past the last attempt of a set's run are added to the set, the run doesn't change, unless the ceiling cuts the run. Call a
+/// set "made" if each of its attempts is made in the run in which the set's earlier attempts fail. If the runs under all made sets are
+/// fine, the runs under all sets are fine. The least set whose run isn't fine is a made set.
 pub fn sets_end()
     ensures past { (script : Script) (budget : ℕ) (shape : Shape) (numbers more : List ℕ) →
         (set_run script budget shape numbers).outcome ≢ Cut Ceiling →
@@ -43,8 +43,9 @@ pub fn sets_end()
         AreSetsFineBefore script budget shape numbers → AreMade script budget shape numbers }
 {}
 
-/// A run under any rule is the run under the set of those attempts that it didn't grant, except for notes and for how the trace names
-/// refusals. So if no set of failures shows a leak, a panic or a cut, no limit, number, rate or pair does.
+/// Take a run under any rule, and the set of the attempts that were not granted in this run. The run under this set is the same run, except
+/// for notes and for how the trace names refusals. So if no set of failures shows a leak, a panic or a cut, then no limit, number, rate or
+/// pair shows any of these.
 pub fn refused_attempts_are_a_set()
     ensures ascend { (script : Script) (budget : ℕ) (shape : Shape) (r : Rule) →
         IsSet (refused_numbers (run script r budget shape).trace) }

@@ -1,4 +1,5 @@
-//! Laws of sweeps over the sets of a part. Each is the contract of a function that does nothing, so that the gate proves it.
+//! Laws of sweeps over the sets of a part. Each law is the contract of a function that does nothing, so that checking the function proves
+//! the law.
 
 ghost use Rattle.std.specs.Prelude.{◌≡◌, ◌≤◌, ◌↔◌, ℕ, List, length};
 ghost use Rattle.wb_runs.specs.Parts.{last_attempt, AreTogether, IsNoneIn};
@@ -13,8 +14,8 @@ ghost use Rattle.wb_meaning.specs.declared.run.RunResult.{RunResult};
 ghost use Rattle.wb_meaning.specs.declared.run.Why.{Why};
 ghost use Rattle.wb_tree.specs.declared.script.Script.{Script};
 
-/// If a part begins with number 0 and goes at least to the last attempt of the run without failure, a sweep over its sets of at most `most`
-/// attempts answers what a sweep over all sets of at most `most` attempts answers.
+/// Let a part have all numbers from 0 to the last attempt of the run without failure, and let sets have at most `most` attempts. Then a
+/// sweep over the part's sets has the same answer as a sweep over all sets.
 pub fn a_whole_part_has_all_sets()
     ensures found { (part : Part) (most : ℕ) (script : Script) (budget : ℕ) (shape : Shape)
         (numbers : List ℕ) (result : RunResult) → part.from ≡ 0 →
@@ -31,15 +32,16 @@ pub fn a_whole_part_has_all_sets()
         IsNoSetIn part most script budget shape ↔ AreSetsFine script budget shape most }
 {}
 
-/// A sweep over the sets of a part has one answer: one set is found, with the run under it, or one is cut, in one way, or none is.
+/// A sweep over the sets of a part has only one answer. The answer is a set with its bad run, a set with the reason why its run is cut, or
+/// that each tried run is fine.
 pub fn a_part_of_sets_has_one_answer()
     ensures one { (part : Part) (most : ℕ) (script : Script) (budget : ℕ) (shape : Shape)
         (answer another : SetAnswer) → IsSetAnswerIn part most script budget shape answer →
         IsSetAnswerIn part most script budget shape another → answer ≡ another }
 {}
 
-/// The lesser of the answers to the sets of two parts is the answer to the sets of both parts together. So if parts cover all numbers, the
-/// least of their answers is the answer to the whole.
+/// The lesser of the answers for the sets of two parts is the answer for the sets of both parts together. So if several parts cover all
+/// numbers, the least of their answers is the answer for all numbers.
 pub fn the_least_set_is_of_both()
     ensures least { (part next both : Part) (most : ℕ) (script : Script) (budget : ℕ)
         (shape : Shape) (answer another : SetAnswer) → AreTogether part next both →
@@ -48,9 +50,9 @@ pub fn the_least_set_is_of_both()
         IsSetAnswerIn both most script budget shape (least_set_of answer another) }
 {}
 
-/// A sweep over the sets of at most one attempt finds what a sweep over single failures finds, and a sweep over the sets of at most two
-/// attempts finds what a sweep over pairs finds. The same holds of the least failure whose run is cut, and of the answer that no run is bad
-/// or cut.
+/// A sweep over the sets of at most one attempt finds what a sweep over single failures finds. A sweep over the sets of at most two
+/// attempts finds what a sweep over pairs finds. These sweeps also agree on the least failure whose run is cut, and on the answer that no
+/// run is bad or cut.
 pub fn few_sets_are_single_failures_and_pairs()
     ensures single { (part : Part) (script : Script) (budget : ℕ) (shape : Shape)
         (numbers : List ℕ) (result : RunResult) →

@@ -1,5 +1,5 @@
-//! Laws of what sweeps answer, and of runs in which two attempts fail. Each is the contract of a function that does
-//! nothing, so that the gate proves it.
+//! Laws of what sweeps answer, and of runs in which two attempts fail. Each law is the contract of a function that does nothing, so that
+//! checking the function proves the law.
 
 ghost use Rattle.std.specs.Prelude.{◌≡◌, ◌≢◌, ℕ, ◌<◌, ◌≤◌, Some, None, false, length, true};
 ghost use Rattle.wb_runs.specs.Pairs.{least_bad_or_cut_pair, pair_run, AreAllPairsFine, ArePairsFineBefore};
@@ -16,9 +16,12 @@ ghost use Rattle.wb_meaning.specs.declared.run.Why.{Why};
 ghost use Rattle.wb_meaning.specs.declared.run.Why.TheVariants.{Ceiling};
 ghost use Rattle.wb_tree.specs.declared.script.Script.{Script};
 
-/// A pair whose second attempt isn't made once its first has failed gives the run in which the first fails alone, and one whose
-/// first attempt isn't made gives the run without failure. So all pairs are fine where no single failure shows anything and
-/// those are fine whose attempts are made; and what is found among these is the least of all.
+/// If a pair's second attempt isn't made after the first attempt fails, the run under the pair is the run in which only the first attempt
+/// fails. If a pair's first attempt isn't made, the run under the pair is the run without failure. The ceiling must not cut the run in
+/// which only the first attempt fails, or the run without failure, respectively.
+///
+/// All pairs are fine if all single failures are fine and all pairs whose attempts are made are fine. If all single failures are fine, the
+/// least bad or cut pair among the pairs whose attempts are made is the least of all bad or cut pairs.
 pub fn pairs_end()
     ensures second { (script : Script) (budget : ℕ) (shape : Shape) (i j : ℕ) → i < j →
         (runs_of Single script budget shape i).outcome ≢ Cut Ceiling →
@@ -45,8 +48,8 @@ pub fn pairs_end()
         AreAllPairsFine (pair_run script budget shape) }
 {}
 
-/// A sweep over failures of a kind has one answer: one failure is found, with the run under it, or one is cut, in one way, or
-/// none is.
+/// A sweep over the failures of one kind has only one answer. The answer is a failure with its bad run, a failure with the reason why its
+/// run is cut, or that each run is fine.
 pub fn sweeps_answer_once()
     ensures run { (script : Script) (budget : ℕ) (shape : Shape) (failures : Failures)
         (at : Failing) (result : RunResult) →

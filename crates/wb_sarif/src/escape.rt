@@ -1,9 +1,9 @@
-//! Texts of the user in a log: within strings of JSON, and as references to files.
+//! How a log holds texts of the user: escaped in strings of JSON, or as references to files.
 
 use std::fmt;
 use std::fmt::{Display, Formatter, Write};
 
-/// A text within a string of JSON.
+/// A text that is written inside a string of JSON, with escapes where JSON needs them.
 #[derive(Clone, Copy)]
 pub struct Escaped<'a>(pub &'a str);
 
@@ -25,7 +25,7 @@ fn write_letter<W: Write>(f: &mut Formatter<W>, letter: char) -> fmt::Result {
     }
 }
 
-/// A file's name as a URI, or as a reference relative to the folder that the name is relative to.
+/// A file's name as a reference: a URI for an absolute name, else a relative reference to the same file.
 #[derive(Clone, Copy)]
 pub struct FileReference<'a>(pub &'a str);
 
@@ -41,7 +41,8 @@ impl<'a> Display for FileReference<'a> {
     }
 }
 
-/// Writes a byte of a name. A byte that a reference may not hold, or in which it has a meaning, is written by its number.
+/// Writes a byte of a file's name. Letters, digits and a few other characters are written as they are; every other byte is written as `%`
+/// and two hexadecimal digits.
 fn write_byte<W: Write>(f: &mut Formatter<W>, byte: u8) -> fmt::Result {
     if byte.is_ascii_alphanumeric() || matches!(byte, b'/' | b'.' | b'_' | b'-' | b'~') {
         f.write_char(byte as char)

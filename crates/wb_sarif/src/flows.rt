@@ -1,6 +1,7 @@
-//! How a finding came about as code flows: one through the attempts that failed, and one through what became of the cell or the items that
-//! the finding is about. Which of the two came first isn't always known, so that they aren't one. Within a flow, what came first comes first;
-//! a leak, which shows when the run is over, ends the first flow, and the line that made the cell begins the second.
+//! How a finding came about, as code flows. One flow goes through the attempts that failed; the other shows what became of the cell or the
+//! items that the finding is about. The two flows are separate because it isn't always known in which order their events happened. The
+//! events of each flow are in order of time. A leak shows only after the run, so its message ends the first flow; the second flow of a leak
+//! begins with the line that made the cell.
 
 use crate::places::{has_place, put_location};
 use crate::writing::{Log, Written, comma};
@@ -9,18 +10,18 @@ use std::fmt::Write;
 use wb_explain::runs::{Finding, Told};
 use wb_pages::Part;
 
-/// A flow, in the order in which it is written.
+/// A code flow: its places, in the order in which they are written.
 #[derive(Clone, Copy)]
 struct Flow<'b> {
-    /// The finding's own message, if the flow begins with it; else `None`.
+    /// The finding's own message, if the flow begins with this message; else `None`.
     first: Option<Part>,
     parts: &'b [Part],
     is_backwards: bool,
-    /// The finding's own message, if the flow ends with it; else `None`.
+    /// The finding's own message, if the flow ends with this message; else `None`.
     last: Option<Part>,
 }
 
-/// Writes the flows of a finding; nothing if no line led to it.
+/// Writes the code flows of a finding; nothing if no line led to the finding.
 pub fn put_flows(log: &mut Log<'_>, finding: Finding, own: Part) -> Written {
     let explanation = log.explanation;
     let (first, last) = if finding.told == Told::Forwards {
@@ -58,7 +59,8 @@ pub fn put_flows(log: &mut Log<'_>, finding: Finding, own: Part) -> Written {
     log.text.push_str("]")
 }
 
-/// Whether a part is about what happened at a line. A line that declares a class doesn't happen.
+/// Whether a part of the explanation is about something that happened at a line of the script. A line that declares a class doesn't count:
+/// such a line never runs.
 fn is_moment(log: &Log<'_>, part: Part) -> bool {
     let line = u32::try_from(part.line).unwrap_or(0);
     has_place(part) && log.lines.word(line, 0) != "class"
@@ -89,7 +91,8 @@ fn put_flow(log: &mut Log<'_>, flow: Flow<'_>) -> Written {
     log.text.push_str("]}]}")
 }
 
-/// Writes a part as a place of a flow, if it is about what happened at a line. Returns how many places the flow then has.
+/// Writes a part of the explanation as a place of a flow, if the part is about something that happened at a line. Returns how many places
+/// the flow has afterwards.
 fn put_moment(log: &mut Log<'_>, part: Option<Part>, count: usize) -> Result<usize, AllocError> {
     let Some(part) = part else {
         return Ok(count);

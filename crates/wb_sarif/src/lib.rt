@@ -1,7 +1,7 @@
 //! Explanations as a SARIF log: JSON of the Static Analysis Results Interchange Format, version 2.1.0, which forges and editors read.
 //!
-//! Plain functions from values to text. No report depends on them. What was found, at which lines and how it came about is known from the
-//! explanation (`wb_explain`), so that the log says what the text on standard error says.
+//! The functions turn values into text and have no other effect. No report depends on them. The explanation (`wb_explain`) holds what was
+//! found, at which lines, and how it came about. So the log and the text on standard error say the same.
 #![tactic(auto)]
 
 mod escape;

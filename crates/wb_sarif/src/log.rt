@@ -1,4 +1,4 @@
-//! A log as a whole.
+//! A whole SARIF log.
 
 use crate::escape::FileReference;
 use crate::notifications::put_notifications;
@@ -10,12 +10,12 @@ use std::fmt::Write;
 use wb_explain::runs::Explanation;
 use wb_history::ScriptLines;
 
-/// With what each log begins, and nothing else does.
+/// The text with which each log begins. No other output of the workbench begins with it.
 pub const HEAD: &str =
     "{\"$schema\":\"https://docs.oasis-open.org/sarif/sarif/v2.1.0/errata01/os/schemas/sarif-schema-2.1.0.json\",\
     \"version\":\"2.1.0\",\"runs\":[{\"tool\":{\"driver\":{\"name\":\"workbench\",\"rules\":[";
 
-/// Returns the log of what is explained of a script with these lines. The only error is that memory ran out.
+/// Returns the SARIF log for a script with these lines and this explanation. The only error is that memory ran out.
 pub fn log_of(
     alloc: Global,
     lines: &ScriptLines<'_>,

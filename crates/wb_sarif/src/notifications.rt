@@ -1,4 +1,4 @@
-//! What is explained beside the findings, such as what shorter heaps refuse first, as notifications of a log.
+//! The notifications of a log: explanations that belong to no finding, such as which attempts shorter heaps refuse first.
 
 use crate::escape::Escaped;
 use crate::places::{has_place, put_place};
@@ -8,7 +8,7 @@ use std::fmt::Write;
 use wb_explain::runs::{Explanation, Parts};
 use wb_pages::{Part, PartKind};
 
-/// Writes all that no result tells, with the rows of a table below its heading.
+/// Writes all parts of the explanation that are in no result, with the rows of a table below the table's heading.
 pub fn put_notifications(log: &mut Log<'_>) -> Written {
     let explanation = log.explanation;
     let mut count: usize = 0;
@@ -23,8 +23,8 @@ pub fn put_notifications(log: &mut Log<'_>) -> Written {
     Ok(())
 }
 
-/// Writes a part: a row below the notification before it, and anything else as a notification, whose string stays open. Returns how many
-/// notifications there then are.
+/// Writes a part of the explanation. A row is added to the notification before it; any other part becomes a new notification, whose string
+/// stays open. Returns how many notifications there are afterwards.
 fn put_part(log: &mut Log<'_>, count: usize, part: Part) -> Result<usize, AllocError> {
     if part.kind == PartKind::Row && count > 0 {
         put_words(log, "\\n", part)?;
@@ -34,7 +34,7 @@ fn put_part(log: &mut Log<'_>, count: usize, part: Part) -> Result<usize, AllocE
     Ok(count.saturating_add(1))
 }
 
-/// Whether a result tells a part of the explanation.
+/// Whether a result of the log contains this part of the explanation.
 fn is_told(explanation: &Explanation, index: usize, part: Part) -> bool {
     for finding in explanation.findings() {
         let is_before = has_place(part) && is_in(finding.before, index);
@@ -49,7 +49,7 @@ fn is_in(parts: Parts, index: usize) -> bool {
     parts.from <= index && index < parts.to
 }
 
-/// Ends the notification before this one, if there is one, and begins this one, whose string stays open.
+/// Ends the previous notification, if there is one. Then begins the new notification, whose string stays open.
 fn begin(log: &mut Log<'_>, count: usize, part: Part) -> Written {
     if count > 0 {
         log.text.push_str("\"}}")?;
@@ -70,7 +70,7 @@ fn begin(log: &mut Log<'_>, count: usize, part: Part) -> Written {
     put_words(log, before, part)
 }
 
-/// Writes the words of a part within a string.
+/// Writes the words of a part inside a string of JSON.
 fn put_words(log: &mut Log<'_>, before: &str, part: Part) -> Written {
     let words = part.words(log.explanation.text.as_str());
     write!(log.text, "{before}{}", Escaped(words))

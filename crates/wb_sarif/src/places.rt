@@ -6,12 +6,12 @@ use std::fmt::Write;
 use wb_pages::words::count_blanks;
 use wb_pages::{Part, PartKind};
 
-/// Whether a part of an explanation is about a line of the script, and so has a location.
+/// Whether a part of an explanation is about a line of the script. Only such a part has a location.
 pub fn has_place(part: Part) -> bool {
     part.kind == PartKind::OfLine && part.line > 0
 }
 
-/// Writes the place of a message as a property of a location. Columns are counted from 1.
+/// Writes the place of a message as the property `physicalLocation` of a location. Columns are counted from 1.
 pub fn put_place(log: &mut Log<'_>, part: Part) -> Written {
     write!(
         log.text,
@@ -30,7 +30,7 @@ pub fn put_place(log: &mut Log<'_>, part: Part) -> Written {
     write!(log.text, "}}}}")
 }
 
-/// Writes the words of a message, which has a place, and that place, as the properties of a location.
+/// Writes the place and the words of a message as the properties of a location. The message must have a place.
 pub fn put_location(log: &mut Log<'_>, part: Part) -> Written {
     put_place(log, part)?;
     let words = part.words(log.explanation.text.as_str());

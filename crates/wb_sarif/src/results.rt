@@ -33,7 +33,7 @@ fn put_result(log: &mut Log<'_>, index: usize, finding: Finding, own: Part) -> W
     log.text.push_str("}")
 }
 
-/// Writes the place of a finding as the one item of a list; nothing if it has none.
+/// Writes the place of a finding as the only item of a list; nothing if the finding has no place.
 fn put_own_place(log: &mut Log<'_>, own: Part) -> Written {
     if !has_place(own) {
         return Ok(());
@@ -43,7 +43,7 @@ fn put_own_place(log: &mut Log<'_>, own: Part) -> Written {
     log.text.push_str("}")
 }
 
-/// Begins a result with its rule and its level. The string of its message stays open.
+/// Begins a result with its rule and its level. The string of the result's message stays open.
 fn put_rule(log: &mut Log<'_>, index: usize, kind: FindingKind) -> Written {
     let (before, name, level) = (before_item(index), RuleName(kind), level_of(kind));
     let rule = rule_index(log.explanation.findings(), kind);
@@ -53,7 +53,8 @@ fn put_rule(log: &mut Log<'_>, index: usize, kind: FindingKind) -> Written {
     )
 }
 
-/// Writes the message of a finding within its string: its own, and what is said below that of no line, such as what to do.
+/// Writes the message of a finding inside the message's string. The message has the finding's own words, and the lines below them that are
+/// about no line of the script, such as what to do.
 fn put_message(log: &mut Log<'_>, finding: Finding, own: Part) -> Written {
     let explanation = log.explanation;
     let words = own.words(explanation.text.as_str());
@@ -66,7 +67,7 @@ fn put_message(log: &mut Log<'_>, finding: Finding, own: Part) -> Written {
     Ok(())
 }
 
-/// Writes one more line of a message within its string.
+/// Writes one more line of a message inside the message's string.
 fn put_more(log: &mut Log<'_>, part: Part) -> Written {
     let words = part.words(log.explanation.text.as_str());
     let before = match part.kind {
@@ -77,7 +78,7 @@ fn put_more(log: &mut Log<'_>, part: Part) -> Written {
     write!(log.text, "\\n{before}{}", Escaped(words))
 }
 
-/// Writes the places of all that led to a finding, with their messages.
+/// Writes the places of all lines that led to a finding, with their messages.
 fn put_related(log: &mut Log<'_>, finding: Finding) -> Written {
     let explanation = log.explanation;
     let next = put_related_of(log, explanation.parts_in(finding.before), 0)?;
@@ -85,7 +86,7 @@ fn put_related(log: &mut Log<'_>, finding: Finding) -> Written {
     Ok(())
 }
 
-/// Writes the places of these parts, which are numbered from `first` on. Returns the next number.
+/// Writes the places of these parts, numbered from `first` on. Returns the next number.
 fn put_related_of(log: &mut Log<'_>, parts: &[Part], first: usize) -> Result<usize, AllocError> {
     let mut number = first;
     for part in parts {

@@ -1,4 +1,4 @@
-//! The rules of a log: what kinds of findings there are.
+//! The rules of a log: one for each kind of finding.
 
 use crate::writing::{Log, Written, before_item};
 use std::fmt;
@@ -6,7 +6,7 @@ use std::fmt::{Display, Formatter, Write};
 use wb_explain::runs::{Finding, FindingKind, panic_in_symbian};
 use wb_heap_model::heap::Panic;
 
-/// The name of a rule. The number of an ALLOC panic is a place in the heap, and so isn't part of the name.
+/// The name of a finding's rule. The number of an ALLOC panic is a place in the heap, so the name leaves that number out.
 #[derive(Clone, Copy)]
 pub struct RuleName(pub FindingKind);
 
@@ -23,7 +23,7 @@ impl Display for RuleName {
     }
 }
 
-/// Returns how much a finding weighs.
+/// Returns how serious a finding is, as a level of SARIF.
 pub fn level_of(kind: FindingKind) -> &'static str {
     match kind {
         FindingKind::Leak | FindingKind::Panic(_) => "error",
@@ -32,7 +32,7 @@ pub fn level_of(kind: FindingKind) -> &'static str {
     }
 }
 
-/// What a rule is about, in a few words and in a sentence, and what to do.
+/// The texts of a rule: what the rule is about, first in a few words and then in a sentence, and what to do.
 #[derive(Clone, Copy)]
 struct Meaning {
     short: &'static str,
@@ -81,7 +81,7 @@ fn is_same_rule(one: FindingKind, other: FindingKind) -> bool {
     }
 }
 
-/// Whether no finding before this one, by its index, has the same rule.
+/// Whether the finding with this index and kind is the first with its rule.
 fn is_first_of_rule(findings: &[Finding], index: usize, kind: FindingKind) -> bool {
     for (at, other) in findings.iter().enumerate() {
         if at < index && is_same_rule(other.kind, kind) {
@@ -91,7 +91,8 @@ fn is_first_of_rule(findings: &[Finding], index: usize, kind: FindingKind) -> bo
     true
 }
 
-/// Returns the index of a kind's rule among the rules of these findings. The rules are in the order of their first findings.
+/// Returns the index of the rule for this kind among the rules of these findings. The rules are in the order in which the findings first
+/// use them.
 pub fn rule_index(findings: &[Finding], kind: FindingKind) -> usize {
     let mut count: usize = 0;
     for (index, finding) in findings.iter().enumerate() {
@@ -105,7 +106,7 @@ pub fn rule_index(findings: &[Finding], kind: FindingKind) -> usize {
     count
 }
 
-/// Writes the rules of all findings, each once.
+/// Writes the rules of all findings, each rule once.
 pub fn put_rules(log: &mut Log<'_>) -> Written {
     let findings = log.explanation.findings();
     let mut count: usize = 0;

@@ -1,6 +1,6 @@
-//! Laws of the checks. The line that a check names is the first line of the script that breaks a rule, where the rule may look at all lines
-//! of the script. If the bytes spell a script, or have a fault of a later check, no line breaks the rule. Each law is the contract of a
-//! function that does nothing, so that checking this crate proves it.
+//! Laws of the checks. The line that a check names is the first line of the script that breaks a rule; the rule may look at all lines of
+//! the script. If the bytes spell a script, or have a fault of a later check, no line breaks the rule. Each law is the contract of a
+//! function that does nothing, so that checking this crate proves the law.
 
 ghost use Rattle.std.specs.Prelude.{ℕ, ◌<◌, List};
 ghost use Rattle.wb_language.specs.declared.fault.ScriptFault.{ScriptFault};
@@ -18,8 +18,8 @@ ghost use Rattle.wb_language.specs.QuietBodies.{MayLeaveThere};
 ghost use Rattle.wb_language.specs.Scripts.{IsScriptOf, IsFaultOf};
 ghost use Rattle.wb_language.specs.WrongSorts.{IsWrong};
 
-/// An unknown name is in the first line that uses a name which is declared nowhere in its space, or a field that the class
-/// of the pointer before it doesn't declare. A script has no such line.
+/// The fault of an unknown name is in the first line that uses an undeclared name or an undeclared field. A name is undeclared if it is
+/// declared nowhere in its space, and a field if the class of the pointer before the dot doesn't declare it. A script has no such line.
 pub fn unknown_names_are_declared_nowhere()
     ensures refused { (bytes : List ℕ) → (n : ℕ) → IsFaultOf bytes (UnknownName n) →
         IsFirstLine UsesUnknown (forms_of (lines_of bytes)) n }
@@ -29,8 +29,8 @@ pub fn unknown_names_are_declared_nowhere()
         4 < number_of_fault fault → IsOfNoLine UsesUnknown (forms_of (lines_of bytes)) }
 {}
 
-/// A double name is in the first line that declares a name which an earlier line of its space declares, or that has two
-/// parameters of one name. A script has no such line.
+/// The fault of a double name is in the first line that declares a name again, or has two parameters with the same name. A line declares a
+/// name again if an earlier line of the same space declares this name. A script has no such line.
 pub fn double_names_are_declared_again()
     ensures refused { (bytes : List ℕ) → (n : ℕ) → IsFaultOf bytes (DoubleName n) →
         IsFirstLine DeclaresAgain (forms_of (lines_of bytes)) n }
@@ -40,8 +40,9 @@ pub fn double_names_are_declared_again()
         5 < number_of_fault fault → IsOfNoLine DeclaresAgain (forms_of (lines_of bytes)) }
 {}
 
-/// A wrong kind is in the first line with an operand or an argument of a wrong sort, or with a wrong number of arguments, or that misuses
-/// `main` or returns where it may not. A script has no such line.
+/// The fault of a wrong kind is in the first line with a wrong operand, wrong arguments, a misuse of `main`, or a `return` that isn't
+/// allowed. Operands and arguments are wrong if they have the wrong kind; arguments are also wrong if their number is wrong. A script has
+/// no such line.
 pub fn wrong_kinds_are_wrong()
     ensures refused { (bytes : List ℕ) → (n : ℕ) → IsFaultOf bytes (WrongKind n) →
         IsFirstLine IsWrong (forms_of (lines_of bytes)) n }
@@ -51,8 +52,8 @@ pub fn wrong_kinds_are_wrong()
         6 < number_of_fault fault → IsOfNoLine IsWrong (forms_of (lines_of bytes)) }
 {}
 
-/// A line that may leave is the first declaration, statement or head of a block, in the body of an operation or of a destructor, that isn't
-/// one of the few allowed there. A script has no such line.
+/// The fault of a line that may leave is in a line of the body of an operation or of a destructor. The line is the first declaration,
+/// statement or head of a block that isn't one of the few allowed in such a body. A script has no such line.
 pub fn leaving_lines_are_in_quiet_bodies()
     ensures refused { (bytes : List ℕ) → (n : ℕ) → IsFaultOf bytes (MayLeave n) →
         IsFirstLine MayLeaveThere (forms_of (lines_of bytes)) n }
@@ -62,8 +63,8 @@ pub fn leaving_lines_are_in_quiet_bodies()
         7 < number_of_fault fault → IsOfNoLine MayLeaveThere (forms_of (lines_of bytes)) }
 {}
 
-/// A line with too many of something is the first line that passes a limit, by what it and the lines before it begin and declare. A script
-/// has no such line.
+/// The fault of too many things is in the first line that passes a limit, counting what this line and the lines before it begin and
+/// declare. A script has no such line.
 pub fn too_many_is_past_a_limit()
     ensures refused { (bytes : List ℕ) → (n : ℕ) → IsFaultOf bytes (TooMany n) →
         IsFirstLine PassesLimit (forms_of (lines_of bytes)) n }

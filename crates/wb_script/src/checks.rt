@@ -33,8 +33,8 @@ use std::alloc::{AllocError, Global};
 use wb_basics::limits::LONGEST_SCRIPT;
 use wb_tree::script_lines::Form;
 
-/// The number of the first line in which a check finds a fault, after one more line: `found` is that of the lines before, and `refused`
-/// says whether the check finds a fault in this line.
+/// The number of the first line in which a check finds a fault, after one more line. `found` is this number for the lines before, and
+/// `refused` says whether the check finds a fault in this line.
 fn or_here(found: Option<u32>, line: u32, refused: bool) -> Option<u32>
     ensures { result ≡ or_here found line refused }
 {
@@ -44,7 +44,7 @@ fn or_here(found: Option<u32>, line: u32, refused: bool) -> Option<u32>
     }
 }
 
-/// For each check, the number of the first line in which it finds a fault; `None` if it has found none.
+/// For each check, the number of the first line in which the check finds a fault; `None` if the check has found no fault.
 #[derive(Clone, Copy)]
 pub(crate) struct FirstLines {
     pub unknown_name: Option<u32>,
@@ -55,7 +55,8 @@ pub(crate) struct FirstLines {
 }
 
 impl FirstLines {
-    /// The first lines with a fault after one more line, given by its number, its form, and `line`, which says what its names stand for.
+    /// The first lines with a fault, after one more line. The one more line has the number `number` and the form `form`, and `line` says
+    /// what its names stand for.
     fn with(
         self,
         items: &Declarations,
@@ -96,7 +97,7 @@ impl FirstLines {
 /// What is known about the lines that were checked so far.
 #[derive(Drop)]
 pub(crate) struct Checked<'a> {
-    /// The lines with what their names and literals stand for.
+    /// The lines, together with what their names and literals stand for.
     pub lines: ResolvedLines,
     pub known: NamesSoFar<'a>,
     pub first: FirstLines,

@@ -1,4 +1,5 @@
-//! Laws about which bytes are scripts. Each law is the contract of a function that does nothing, so that checking this crate proves it.
+//! Laws about which bytes are scripts. Each law is the contract of a function that does nothing, so that checking this crate proves the
+//! law.
 
 ghost use Rattle.std.specs.Prelude.{◌≡◌, ℕ, List, length};
 ghost use Rattle.wb_language.specs.declared.fault.ScriptFault.{ScriptFault};
@@ -27,7 +28,7 @@ pub fn script_or_fault()
         IsScriptOf bytes script → IsFaultOf bytes fault → ⊥ }
 {}
 
-/// The line with an unknown name is the first that uses a name which its body, its class or the script doesn't declare.
+/// The line with an unknown name is the first line that uses a name which its body, its class or the script doesn't declare.
 pub fn unknown_is_undeclared()
     ensures { (bytes : List ℕ) → (n : ℕ) → IsFaultOf bytes (UnknownName n) →
         IsFirstUndeclaredLine (forms_of (lines_of bytes)) n }

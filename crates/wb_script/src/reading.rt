@@ -42,8 +42,8 @@ fn roles<N>(alloc: Global, forms: &[Form<N>]) -> Result<Vec<Role>, AllocError>
     Ok(found)
 }
 
-/// The index of the first line that no script can have there, or the number of lines if only an `end` is missing; `None` if the lines are
-/// grammatical as a whole script.
+/// The index of the first line that no script can have at this point. The result is the number of lines if only an `end` is missing, and
+/// `None` if the lines are grammatical as a whole script.
 fn misfit(alloc: Global, forms: &[Form<&[u8]>]) -> Result<Option<usize>, AllocError>
     ensures { IfOk result (λ found. MatchOption found
         (IsGrammatical (roles_of (bytes_of_forms forms.now)))
@@ -111,7 +111,7 @@ fn script_of(
     })
 }
 
-/// The index of `main` among the procedures, or the first fault. `first` says for each check in which line it first finds a fault.
+/// The index of `main` among the procedures, or the first fault. For each check, `first` says in which line the check first finds a fault.
 fn place_of_main(items: &Declarations, first: FirstLines) -> Result<usize, ScriptFault>
     ensures found { IfOk result (IsMain (bytes_of_items items.now) first) }
     ensures fault { IfErr result (IsFirstFault (bytes_of_items items.now) first) }
@@ -137,7 +137,7 @@ fn place_of_main(items: &Declarations, first: FirstLines) -> Result<usize, Scrip
     }
 }
 
-/// The script that grammatical lines spell, or the first of their faults that isn't one of grammar.
+/// The script that grammatical lines spell, or their first fault that isn't a fault of grammar.
 fn check_and_build(
     alloc: Global,
     forms: &[Form<&[u8]>],
@@ -160,7 +160,7 @@ fn check_and_build(
     }
 }
 
-/// The script that lines spell, by their forms, or the first fault of the lines.
+/// The script that lines with these forms spell, or the first fault of the lines.
 fn read_forms(
     alloc: Global,
     forms: &[Form<&[u8]>],
@@ -195,10 +195,10 @@ fn read_text(alloc: Global, bytes: &[u8]) -> Result<Result<Script, ScriptFault>,
 
 /// Returns the script that bytes spell, or the first fault of the bytes.
 ///
-/// The checks come in the order of `ScriptFault`'s variants, each over the whole script. The first check that finds a fault decides, and
-/// names the first line with this fault, counted from 1, unless it is a fault without a line. `NoMemory` is returned only if the workbench
-/// itself ran out of memory, which can happen only after the bytes have passed the checks of `TooLong` and `NotAscii`; it says nothing else
-/// about them.
+/// The checks come in the order of `ScriptFault`'s variants, and each check goes over the whole script. The first check that finds a fault
+/// decides. The fault names the first line that has it, counted from 1, unless the fault has no line. `NoMemory` is returned only if the
+/// workbench itself ran out of memory. `NoMemory` can come only after the bytes have passed the checks of `TooLong` and `NotAscii`, and
+/// says nothing else about the bytes.
 pub fn read(alloc: Global, bytes: &[u8]) -> Result<Script, ScriptFault>
     ensures script { IfOk result (IsScriptOf bytes.now) }
     ensures sound { IfOk result (λ s. IsTrue (is_script s)) }

@@ -40,7 +40,7 @@ use wb_basics::limits::LONGEST_SCRIPT;
 use wb_lines::line_kinds::role_of;
 use wb_tree::script_lines::{LineKind, Operand, Referent, Role};
 
-/// What the line with this number opens where nothing is open; `None` if the line is not allowed there.
+/// What the line with this number opens where nothing is open; `None` if the line is not allowed here.
 fn begin_item(
     alloc: Global,
     space: Space,
@@ -62,7 +62,7 @@ fn begin_item(
     }
 }
 
-/// Adds the line with this number where nothing is open; `None` if it is not allowed there.
+/// Adds the line with this number where nothing is open; `None` if the line is not allowed here.
 fn add_outside(
     alloc: Global,
     space: Space,
@@ -82,7 +82,7 @@ fn add_outside(
     }
 }
 
-/// Adds the line with this number to the open body; `None` if it is not allowed there.
+/// Adds the line with this number to the open body; `None` if the line is not allowed there.
 fn add_inside(
     alloc: Global,
     space: Space,
@@ -110,7 +110,7 @@ fn add_inside(
     }
 }
 
-/// Adds the line with this number, which isn't skipped, to the tree; `None` if it is not allowed there.
+/// Adds the line with this number, which isn't skipped, to the tree; `None` if the line is not allowed here.
 fn add_line(
     alloc: Global,
     space: Space,
@@ -138,7 +138,7 @@ fn add_line(
     }
 }
 
-/// Adds the line with this number, which has a form or is skipped, to the tree; `None` if it is not allowed there.
+/// Adds the line with this number, which has a form or is skipped, to the tree; `None` if the line is not allowed here.
 fn add_form(
     alloc: Global,
     space: Space,
@@ -161,8 +161,8 @@ fn add_form(
     }
 }
 
-/// Adds the line with this number, which has a form or is skipped, to the tree in place; returns false if it is not allowed there. A
-/// statement that begins no block is appended in the open body, and nothing else moves; for any other line the tree is taken out and built
+/// Adds the line with this number, which has a form or is skipped, to the tree in place; returns `false` if the line is not allowed here. A
+/// statement that begins no block is appended in the open body, and nothing else moves. For any other line, the tree is taken out and built
 /// anew.
 fn add_next(
     alloc: Global,
@@ -219,14 +219,14 @@ fn items_from(alloc: Global, space: Space, lines: &ResolvedLines) -> Result<Whol
     }
     match building.stage {
         Stage::Outside => Ok(building.whole),
-        // Both are bound to names, so that no part of the stage is left to drop in these arms.
+        // The class, the owner and the body are bound to names, so that no part of the stage is left to drop in these arms.
         Stage::InClass(_class) => unreachable!(),
         Stage::InBody(_owner, _body) => unreachable!(),
     }
 }
 
-/// The classes, procedures and operations of a script, from all its lines. `literals` is its number of literals, and `items` is what it
-/// declares in its own space.
+/// The classes, procedures and operations of a script, from all its lines. `literals` is the number of the script's literals, and `items`
+/// is what the script declares in its own space.
 pub(crate) fn bodies_of(
     alloc: Global,
     literals: u32,

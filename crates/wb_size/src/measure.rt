@@ -11,21 +11,22 @@ ghost use Rattle.wb_size.specs.declared.fault.SizeFault.TheVariants.{BadShape, C
 ghost use Rattle.wb_size.specs.Sizing.{IsSizing};
 
 use crate::fault::SizeFault;
-use crate::sizing::{Sizing, sizing_of};
+use crate::sized_run::size_by_run;
+use crate::sizing::Sizing;
 use std::alloc::Global;
 use wb_basics::limits::LARGEST_BUDGET;
 use wb_heap_model::heap::Shape;
-use wb_machine::run_rises;
-use wb_meaning::run::Outcome;
+use wb_runs::progress::Silent;
 use wb_tree::script::Script;
 
-/// Returns the least length of a heap that denies no attempt of a script, in bytes, and which attempt each shorter heap denies first.
+/// Returns the least length, in bytes, of a heap that refuses no attempt of a script. Also returns which attempt each shorter heap refuses
+/// first.
 ///
-/// The script runs once, without a limit, and only the rises of that run are kept, so an attempt that isn't a rise adds nothing. What is
-/// returned holds for every length, also for lengths past the ceiling. In a heap of the required length or longer, no attempt of the run is
-/// denied. In every shorter heap one is, whatever happens afterwards, and the first attempt denied is the one that `refused_at` returns and
-/// the table of rises names. `Cut` is returned exactly if the run without a limit is cut. `BadShape` is returned exactly if no heap may
-/// have this shape; then there is no run.
+/// The script runs once, without a limit, and only the rises of this run are kept, so other attempts add nothing to what is kept. The
+/// result holds for every length, also for lengths past the ceiling. A heap of the required length or longer refuses no attempt of the run.
+/// Every shorter heap refuses an attempt, whatever happens afterwards. The first attempt that it refuses is the one that `refused_at`
+/// returns and the table of rises names. `Cut` is returned exactly if the run without a limit is cut. `BadShape` is returned exactly if no
+/// heap may have this shape; then there is no run.
 pub fn size(alloc: Global, script: &Script, budget: u32, shape: Shape) -> Result<Sizing, SizeFault>
     requires script { IsTrue (is_script script.now) }
     requires least { 1 ≤ budget }
@@ -35,12 +36,5 @@ pub fn size(alloc: Global, script: &Script, budget: u32, shape: Shape) -> Result
         (number ≡ 0) × ((run script.now Unlimited budget shape).outcome ≡ outcomes.Cut why) }
     ensures shape { (result ≡ Err SizeFault.BadShape) ↔ (is_shape shape ≡ false) }
 {
-    let run_result = run_rises(alloc, script, budget, shape)?;
-    if let Outcome::Cut(why) = &run_result.outcome {
-        return Err(SizeFault::Cut {
-            number: 0,
-            why: *why,
-        });
-    }
-    Ok(sizing_of(run_result.rises))
+    Ok(size_by_run(alloc, script, budget, shape, &mut Silent)?.into_sizing())
 }

@@ -1,5 +1,5 @@
-//! Runs that come to a state again. If the state's run is kept, it is copied. Otherwise the nearest kept run on the way to the state is
-//! copied, and the copy goes on to the state under the state's set.
+//! Runs that come to a state again. If the state's run is kept, this run is copied. Otherwise the nearest kept run on the way to the state
+//! is copied, and the copy goes on to the state under the state's set.
 
 ghost use Rattle.std.specs.Prelude.{◌≡◌, ℕ, ◌≤◌, ◌++◌, List, true, false, slice_get, Some, IfOk, IfSome, OnOk};
 ghost use Rattle.wb_machine.specs.Turns.{IsSameRun};
@@ -15,7 +15,7 @@ use wb_basics::memory::NoMemory;
 use wb_heap_model::heap::{Numbers, Rule};
 use wb_machine::{Heap, Machine};
 
-/// Whether `set` begins with all numbers of `other`, and its further numbers are greater than `attempts`.
+/// Whether `set` begins with all numbers of `other`, and the further numbers of `set` are greater than `attempts`.
 fn goes_on_from(set: &Numbers, other: &Numbers, attempts: u32) -> bool
     requires set { IsSet set.now }
     ensures { result ≡ true →
@@ -28,7 +28,8 @@ fn goes_on_from(set: &Numbers, other: &Numbers, attempts: u32) -> bool
     }
 }
 
-/// Lets a run go on until it has made `attempts` attempts in all; `false` if it ends before.
+/// Lets a run go on until it has made `attempts` attempts in all and asks for a further attempt. Returns `false` if the run ends before
+/// that.
 fn go_to(machine: &mut Machine, attempts: u32) -> Result<bool, NoMemory>
     requires begun { 1 ≤ machine.old.attempts → machine.old.begun ≡ true }
     requires asks { machine.old.asks ≡ true }
@@ -51,8 +52,8 @@ fn go_to(machine: &mut Machine, attempts: u32) -> Result<bool, NoMemory>
     Ok(true)
 }
 
-/// A copy, over spare memory, of a run that has come to a state. The copy goes on under the set `numbers`; `None` if that set doesn't begin
-/// with the state's own numbers, or if a further number of it is that of an attempt that was already made.
+/// A copy, in spare memory, of a run that has come to a state. The copy goes on under the set `numbers`. The result is `None` if `numbers`
+/// doesn't begin with the state's own numbers, or if a further attempt in `numbers` was already made.
 fn copy_under<'a>(
     machine: &Machine<'a>,
     state: &State,
@@ -90,8 +91,8 @@ impl<'a> Search<'a> {
         from
     }
 
-    /// A copy of the run of the state at an index, which goes on under a set; `None` if the state's run isn't kept, and if the set doesn't
-    /// go on from the state.
+    /// A copy of the run of the state at an index. The copy goes on under the set `numbers`. The result is `None` if the state's run isn't
+    /// kept, or if `copy_under` returns `None` for this set.
     fn copy_at(
         &self,
         at: usize,
@@ -111,7 +112,7 @@ impl<'a> Search<'a> {
         copy_under(machine, state, numbers, spare)
     }
 
-    /// A run, over spare memory, that comes to a state again; `None` if no run does.
+    /// A run, in spare memory, that comes to a state again; `None` if no run comes to the state again.
     pub fn follow_again(
         &self,
         state: &State,
@@ -134,7 +135,8 @@ impl<'a> Search<'a> {
         Ok(Some(machine))
     }
 
-    /// Keeps the run of an older state again, if a run comes to that state again: from this state the way to the next states is short.
+    /// Keeps the run of an older state again, if a run comes to the older state again. From the kept run, the way to the states that come
+    /// next is short.
     fn put_back(&mut self, at: usize) -> Result<(), NoMemory>
         requires sound { IsSound self.old }
         ensures same { self.new ≡ record self.old { runs = self.new.runs } }
@@ -150,7 +152,7 @@ impl<'a> Search<'a> {
         }
     }
 
-    /// A copy, over spare memory, of the run of the state at an index; `None` if that run isn't kept.
+    /// A copy, in spare memory, of the run of the state at an index; `None` if this run isn't kept.
     fn copy_kept(&mut self, at: usize) -> Result<Option<Machine<'a>>, NoMemory>
         requires sound { IsSound self.old }
         ensures same { self.new ≡ record self.old { runs = self.new.runs } }
@@ -169,7 +171,8 @@ impl<'a> Search<'a> {
         }
     }
 
-    /// A copy of a run that has come to the state at an index; `None` if there is no such state, and if no run comes to it again.
+    /// A copy of a run that has come to the state at an index. The result is `None` if there is no such state, or if no run comes to the
+    /// state again.
     pub fn run_at(&mut self, at: usize) -> Result<Option<Machine<'a>>, NoMemory>
         requires sound { IsSound self.old }
         ensures same { self.new ≡ record self.old { runs = self.new.runs } }

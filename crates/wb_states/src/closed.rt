@@ -1,5 +1,5 @@
-//! Whether what a search has found is enough for an answer: whether the runs of all sets that the answer is about were followed, and the
-//! budget allows each of these runs its steps.
+//! Whether a search has found enough for an answer. The search has found enough if the runs of all sets that the answer is about were
+//! followed, and the budget allows each of these runs its steps.
 
 ghost use Rattle.std.specs.Prelude.{◌≡◌, ℕ, ◌≤◌, ◌^◌, List, true, slice_get, IfOk, Some};
 ghost use Rattle.wb_runs.specs.Sweeps.{is_fine};
@@ -21,14 +21,14 @@ use wb_heap_model::heap::Numbers;
 pub(crate) enum Bound {
     /// All sets.
     All,
-    /// The sets of at most so many attempts.
+    /// The sets of at most this many attempts.
     AtMost(u32),
-    /// The sets that come before this one.
+    /// The sets that come before this set.
     Before(Numbers),
 }
 
 impl Bound {
-    /// Whether no set that the answer is about begins with this one.
+    /// Whether no set that the answer is about begins with the set `set`.
     fn excludes(&self, set: &Numbers) -> bool
         ensures { result ≡ true → (attempts : ℕ) → AreOutside self.now set.now attempts }
     {
@@ -65,8 +65,9 @@ pub(crate) fn turns_taken(state: &State) -> u64
 }
 
 /// Whether an edge of a state is allowed for every run that comes to the state. The state's own run has taken `turns` turns, and any run
-/// that comes to it at most `greatest`. A run that ends must end within the budget. A run that joins a further state must come to it with
-/// no more turns than `most` has for that further state. An edge whose run is bad or cut, or wasn't followed, isn't allowed.
+/// that comes to the state has taken at most `greatest` turns. A run that ends must end within the budget. A run that joins a further state
+/// must come to this further state with no more turns than `most` has for it. An edge whose run is bad or cut, or wasn't followed, isn't
+/// allowed. An edge that belongs to no tried set is allowed.
 fn allows(edge: Edge, turns: u64, greatest: u32, most: &Items<u32>, budget: u32) -> bool
     requires few { turns ≤ 2 ^ 32 }
     ensures { result ≡ true → (g : Ground) → g.budget ≡ budget →
@@ -85,7 +86,8 @@ fn allows(edge: Edge, turns: u64, greatest: u32, most: &Items<u32>, budget: u32)
     }
 }
 
-/// Whether all runs that the answer is about and in which a state's next attempt is granted are followed, as `allows` asks.
+/// Whether `allows` is `true` for the edge on which a state's next attempt is granted. If the edge's run is bad, cut or not followed,
+/// returns instead whether the answer is about no set that begins with the state's set.
 fn is_grant_followed(
     edge: Option<Edge>,
     state: &State,
@@ -104,7 +106,8 @@ fn is_grant_followed(
     }
 }
 
-/// The same of the runs in which the state's next attempt fails.
+/// Whether `allows` is `true` for the edge on which a state's next attempt fails. If the edge's run is bad, cut or not followed, returns
+/// instead whether the answer is about no set that begins with the state's set and next attempt.
 fn is_failure_followed(
     edge: Option<Edge>,
     state: &State,
@@ -124,8 +127,8 @@ fn is_failure_followed(
 }
 
 impl<'a> Search<'a> {
-    /// Whether a state is closed: whether all runs that go on from it, and that the answer is about, are followed. `at` is the state's
-    /// index. A run that comes to the state has taken at most `greatest` turns.
+    /// Whether a state is closed: whether all runs that go on from the state, and that the answer is about, are followed. `at` is the
+    /// state's index. A run that comes to the state has taken at most `greatest` turns.
     fn is_state_closed(
         &self,
         at: usize,
@@ -152,7 +155,7 @@ impl<'a> Search<'a> {
         is_failure_followed(failed, state, greatest, most, bound, self.budget)
     }
 
-    /// Whether the state at an index is closed.
+    /// Whether the state at an index is closed; `false` if there is no such state.
     fn is_closed_at(&self, at: usize, most: &Items<u32>, bound: &Bound) -> Result<bool, NoMemory>
         requires sound { IsSound self.now }
         ensures { IfOk result (λ closed. closed ≡ true → (state : State) →
@@ -167,8 +170,9 @@ impl<'a> Search<'a> {
         }
     }
 
-    /// Whether all states are closed, so that no set that the answer is about has a run that is bad or cut. `most` has for each state the
-    /// greatest number of turns that a run has taken when it comes to the state; if a number in it is too small, the answer is `false`.
+    /// Whether all states are closed. If they are, no set that the answer is about has a run that is bad or cut. For each state, `most` has
+    /// the greatest number of turns that a run has taken when it comes to the state. If a number in `most` is too small, the function
+    /// returns `false`.
     pub(crate) fn is_closed(&self, most: &Items<u32>, bound: &Bound) -> Result<bool, NoMemory>
         requires sound { IsSound self.now }
         ensures closed { IfOk result (λ closed. closed ≡ true →

@@ -1,8 +1,8 @@
-//! What a run comes to after its next attempt: a state that is kept, a new state, or its end. Which runs are followed is not decided here.
+//! What a run comes to after its next attempt: a state that is already kept, a new state, or the run's end. This file doesn't decide which
+//! runs are followed.
 
 ghost use Rattle.std.specs.Prelude.{◌≡◌, ℕ, ◌+◌, ◌≤◌, false, true, length, IfOk, OnOk};
 ghost use Rattle.wb_runs.specs.Sets.{IsSet};
-ghost use Rattle.wb_runs.specs.Sweeps.{is_fine};
 ghost use Rattle.wb_states.specs.Ground.{run_of, turns_of, IsTriedSet};
 ghost use Rattle.wb_states.specs.States.{ground_of, GoesOn, HasGrown, IsAboutTo, IsRunUnder, IsSound};
 
@@ -12,22 +12,11 @@ use crate::turns::go_past_attempt;
 use wb_basics::memory::NoMemory;
 use wb_heap_model::heap::Numbers;
 use wb_machine::{Finished, Machine};
-use wb_meaning::run::{Outcome, RunResult};
 use wb_runs::progress::Progress;
-
-/// Whether a run is neither bad nor cut. A run that only leaves is fine, and so is a run that gets no cleanup stack.
-fn is_fine(run_result: &RunResult) -> bool
-    ensures { result ≡ is_fine run_result.now }
-{
-    match &run_result.outcome {
-        Outcome::Ended { leaks, .. } => leaks.len() == 0,
-        Outcome::Panicked(_) | Outcome::Cut(_) => false,
-        Outcome::NoCleanup => true,
-    }
-}
+use wb_runs::run_end::is_fine;
 
 impl<'a> Search<'a> {
-    /// Whether a set is tried. The empty set counts as number 0.
+    /// Whether a set is tried. The least number of the empty set counts as 0.
     pub fn tries(&self, numbers: &Numbers) -> bool
         requires set { IsSet numbers.now }
         ensures tried { result ≡ true → IsTriedSet (ground_of self.now) numbers.now }
@@ -40,8 +29,8 @@ impl<'a> Search<'a> {
         self.whole || (self.part.from <= least && least <= self.part.to && least <= self.last)
     }
 
-    /// Judges a run that is over, in which the attempts of a set fail. The first tried set whose run is bad or cut is put into `shown`. The
-    /// run's memory becomes spare.
+    /// Judges a run that is over. In this run, the attempts of the set `numbers` fail. The first tried set whose run is bad or cut is put
+    /// into `shown`. The run's memory becomes spare.
     fn end(&mut self, fork: Machine<'a>, numbers: Numbers) -> Result<Edge, NoMemory>
         requires sound { IsSound self.old }
         requires run { IsRunUnder (ground_of self.old) numbers fork }
@@ -54,7 +43,7 @@ impl<'a> Search<'a> {
     {
         let Finished { result, heap } = fork.finish()?;
         self.runs.spare = Some(heap);
-        if is_fine(&result) {
+        if is_fine(&result.outcome) {
             return Ok(Edge::Ends {
                 steps: result.steps,
             });
@@ -68,7 +57,7 @@ impl<'a> Search<'a> {
         Ok(Edge::Shows)
     }
 
-    /// Lets a run make its next attempt, and returns how it goes on. The run is at the state with the index `before`.
+    /// Lets a run make its next attempt, and returns how the run goes on. The run is at the state with the index `before`.
     pub fn follow<P: Progress>(
         &mut self,
         mut fork: Machine<'a>,

@@ -1,4 +1,4 @@
-//! How a search grows: which runs it follows next. What an answer is, is not decided here.
+//! How a search grows: which runs it follows next. This file doesn't decide what the search's answer is.
 
 ghost use Rattle.std.specs.Prelude.{◌≡◌, ◌+◌, ◌<◌, ◌≤◌, ◌++◌, ◌∷◌, [], false, true, length, slice_get, Some, Ok, Err, IfOk, OnOk, IsTrue};
 ghost use Rattle.wb_machine.specs.declared.fault.RunFault.TheVariants as RunFault;
@@ -29,13 +29,13 @@ use wb_tree::script::Script;
 pub(crate) struct Plan {
     /// Whether all sets are tried.
     pub whole: bool,
-    /// If not all sets are tried: the tried ones are those whose least number is in this part and no greater than `last`.
+    /// If not all sets are tried, a set is tried if its least number is in this part and no greater than `last`.
     pub part: Part,
     /// How many attempts the run without failure makes.
     pub last: u32,
     /// How many states may be met.
     pub allowed: u32,
-    /// Whether a run joins only states that were met with at least as many steps.
+    /// Whether a run joins a state only if the state was met with at least as many steps as the run has counted.
     pub exact: bool,
 }
 
@@ -118,8 +118,8 @@ impl<'a> Search<'a> {
         }
     }
 
-    /// How a run, which is at the state with the index `at`, goes on if its next attempt fails too. It is followed only if its set is
-    /// tried.
+    /// How a run goes on from the state with the index `at` if the run's next attempt fails too. The run is followed only if the set that
+    /// includes this attempt is tried.
     fn refuse_next<P: Progress>(
         &mut self,
         mut fork: Machine<'a>,
@@ -169,7 +169,8 @@ impl<'a> Search<'a> {
         }
     }
 
-    /// Follows the run of the first state whose next attempt wasn't granted yet; `false` where there is none.
+    /// Follows the run of the first state that has no edge in `granted` yet, with the run's next attempt granted. Returns `false` if there
+    /// is no such state.
     fn follow_granted<P: Progress>(&mut self, progress: &mut P) -> Result<bool, NoMemory>
         requires sound { IsSound self.old }
         ensures sound { OnOk result (IsSound self.new) }
@@ -184,8 +185,8 @@ impl<'a> Search<'a> {
         Ok(true)
     }
 
-    /// Follows the run of the first state whose next attempt didn't fail yet, if its set has fewer than `failures` attempts; otherwise
-    /// `false`.
+    /// Follows the run of the first state that has no edge in `failed` yet, with the run's next attempt made to fail. If there is no such
+    /// state, or the state's set has `failures` or more attempts, follows no run and returns `false`.
     fn follow_failed<P: Progress>(
         &mut self,
         failures: u32,
@@ -207,7 +208,7 @@ impl<'a> Search<'a> {
         Ok(true)
     }
 
-    /// Follows the next run of a set of at most `failures` attempts; `false` if there is none.
+    /// Follows the next run of a set of at most `failures` attempts. Returns `false` if there is no such run.
     fn follow_next<P: Progress>(
         &mut self,
         failures: u32,
@@ -223,7 +224,7 @@ impl<'a> Search<'a> {
         self.follow_failed(failures, progress)
     }
 
-    /// Follows all runs of sets of at most so many attempts; `false` where more states are met than are allowed.
+    /// Follows all runs of sets of at most `failures` attempts. Stops and returns `false` once more states were met than are allowed.
     pub fn grow<P: Progress>(&mut self, failures: u32, progress: &mut P) -> Result<bool, NoMemory>
         requires sound { IsSound self.old }
         ensures sound { OnOk result (IsSound self.new) }
@@ -238,7 +239,7 @@ impl<'a> Search<'a> {
                 return Ok(true);
             }
         }
-        // no search takes 2^64 turns
+        // no search follows 2^64 runs
         Err(NoMemory::from(AllocError))
     }
 }

@@ -1,5 +1,5 @@
-//! Which state a run joins when it is about to make an attempt, or that it has come to a new one. Which runs are followed is not decided
-//! here.
+//! Which kept state a run joins when it is about to make an attempt, or whether the run has come to a new state. This file doesn't decide
+//! which runs are followed.
 
 ghost use Rattle.std.specs.Prelude.{◌≡◌, ℕ, ◌+◌, ◌<◌, ◌≤◌, [], ◌∷◌, ◌++◌, false, true, length, List, slice_get, Some, IfOk, IfSome, OnOk};
 ghost use Rattle.wb_machine.specs.Turns.{MakesMore};
@@ -20,8 +20,8 @@ use wb_machine::Machine;
 use wb_runs::progress::Progress;
 
 impl<'a> Search<'a> {
-    /// Whether all sets that go on from a state are tried. In a search over a part, they are if the state's own set isn't empty: it is
-    /// tried, and its least number is theirs.
+    /// Whether all sets that go on from a state are tried. In a search over a part, this is so if the state's own set isn't empty. Then the
+    /// state's set is tried, and all sets that go on from the state have the same least number as the state's set.
     fn tries_all_past(&self, state: &State) -> bool
         ensures { result ≡ true → IsState (ground_of self.now) state.now →
             (more : List ℕ) → IsSet more →
@@ -31,9 +31,9 @@ impl<'a> Search<'a> {
         self.whole || state.numbers.len() > 0
     }
 
-    /// Whether a run may join a state, if the two are the same except for allocation numbers: if the sets that go on from the state are all
-    /// tried, and come no later than those that go on from the run. In an exact search, the state must also have been met with at least as
-    /// many steps.
+    /// Whether a run may join a state that is the same as the run's own state, except for allocation numbers. All sets that go on from the
+    /// state must be tried, and must come no later than the sets that go on from the run. In an exact search, the state must also have been
+    /// met with at least as many steps as the run has counted.
     fn may_join(&self, state: &State, fork: &Machine, numbers: &Numbers, exact: bool) -> bool
         ensures order { result ≡ true →
             IsNoLater state.now.numbers state.now.attempts numbers.now fork.now.attempts }
@@ -73,7 +73,8 @@ impl<'a> Search<'a> {
         }
     }
 
-    /// Whether a run joins the state at an index: whether it may, and is the same; `false` if there is no such state.
+    /// Whether a run may join the state at an index, and is the same as this state except for allocation numbers; `false` if there is no
+    /// such state.
     fn is_joined_at(
         &self,
         at: usize,
@@ -96,8 +97,8 @@ impl<'a> Search<'a> {
         self.is_met_at(at, state, fork, numbers)
     }
 
-    /// The index of the latest state before the one at the index `at` that has the same fingerprint; `None` if there is none. The first
-    /// state is listed under no fingerprint.
+    /// The index of the latest state that comes before the state at the index `at` and has the same fingerprint; `None` if there is no such
+    /// state. The first state is listed under no fingerprint.
     fn alike_before(&self, at: usize) -> Option<usize> {
         match self.earlier.get(at.checked_sub(1)?) {
             Some(earlier) if *earlier != at => Some(*earlier),
@@ -105,7 +106,7 @@ impl<'a> Search<'a> {
         }
     }
 
-    /// The latest state that a run may join.
+    /// The index of the latest state with the fingerprint `print` that a run joins; `None` if there is no such state.
     fn find(
         &self,
         fork: &Machine,
@@ -132,7 +133,7 @@ impl<'a> Search<'a> {
         Ok(None)
     }
 
-    /// Keeps a state and its run, as the latest one of its fingerprint. It counts as met if it is a new one.
+    /// Keeps a state and its run. The state becomes the latest state of the fingerprint `print`, and counts as met if `is_new` is `true`.
     fn keep<P: Progress>(
         &mut self,
         state: State,
@@ -166,12 +167,12 @@ impl<'a> Search<'a> {
         self.runs.push(at, machine)?;
         if is_new {
             self.met = self.met.saturating_add(1);
-            progress.meet_state();
+            progress.meet_state(self.states.len().saturating_sub(self.failed.len()));
         }
         Ok(())
     }
 
-    /// Whether a run that joins no state would join none either if steps didn't count.
+    /// Whether a run that joins no state would still join no state if steps didn't count.
     fn is_new(&self, fork: &Machine, numbers: &Numbers, print: u64) -> Result<bool, NoMemory>
         requires sound { IsSound self.now }
         requires run { IsUnderWay (ground_of self.now) numbers.now fork.now }
@@ -182,7 +183,8 @@ impl<'a> Search<'a> {
         Ok(self.find(fork, numbers, print, false)?.is_none())
     }
 
-    /// The state that a run joins which is about to make an attempt; it is kept if there is none. It came from the state at the index `before`.
+    /// The edge to the state that a run joins when it is about to make an attempt. If there is no such state, the run's own state is kept,
+    /// and the edge leads to the run's own state. The run came from the state at the index `before`.
     pub fn join<P: Progress>(
         &mut self,
         fork: Machine<'a>,

@@ -1,5 +1,5 @@
-//! How many turns runs have taken when they come to a state. These numbers are guesses, which `is_closed` checks: it returns `false` if a
-//! number is too small.
+//! The numbers of turns that runs have taken when they come to a state. These numbers are guesses: `is_closed` checks them, and returns
+//! `false` if a number is too small.
 
 use crate::closed::turns_taken;
 use crate::search::Search;
@@ -22,14 +22,14 @@ pub(crate) fn met_turns(alloc: Global, search: &Search) -> Result<Items<u32>, No
     Ok(turns)
 }
 
-/// A walk along the edges, which goes on from a state once it has come to the state by all edges that join it.
+/// A walk along the edges. The walk goes on from a state after it has come to the state by all edges that join the state.
 #[derive(Drop)]
 struct Walk {
-    /// For each state, the greatest number of turns with which the walk has come to it so far.
+    /// For each state, the greatest number of turns with which the walk has come to the state so far.
     most: Vec<u32>,
-    /// For each state, by how many edges the walk is still to come to it.
+    /// For each state, how many edges that join the state are still ahead of the walk.
     ahead: Vec<usize>,
-    /// The states to which the walk has come by all edges, and from which it hasn't gone on yet.
+    /// The states to which the walk has come by all edges that join them, and from which the walk hasn't gone on yet.
     ready: Vec<usize>,
 }
 
@@ -85,7 +85,7 @@ impl Walk {
     }
 
     /// Goes along an edge of a state, if the edge joins a further state. The state's own run has taken `own` turns, and any run that comes
-    /// to the state at most `most`.
+    /// to the state has taken at most `most` turns.
     fn go_along(&mut self, edge: Option<&Edge>, own: u32, most: u32) -> Result<(), AllocError> {
         if let Some(Edge::Joins { state, steps }) = edge {
             let further = steps.saturating_add(1).saturating_sub(own);
@@ -115,8 +115,8 @@ impl Walk {
     }
 }
 
-/// For each state, how many turns at most a run has taken when it comes to the state. For states in a cycle of edges, and for states after
-/// such a cycle, the number may be too small.
+/// For each state, the greatest number of turns that a run has taken when it comes to the state. For states in a cycle of edges, and for
+/// states after such a cycle, the number may be too small.
 pub(crate) fn greatest_turns(alloc: Global, search: &Search) -> Result<Items<u32>, NoMemory> {
     let mut walk = Walk::new(alloc, search)?;
     walk.count(search.granted.as_slice());

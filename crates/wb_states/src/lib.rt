@@ -1,5 +1,5 @@
-//! The states that a script's runs come to before an attempt, under sets of failed attempts, each state kept once; and what follows from
-//! them: the least set whose run is bad or cut, or that there is none, however many attempts fail.
+//! A search over the states that a script's runs come to before an attempt, under sets of failed attempts. Each state is kept once. The
+//! search finds the least set whose run is bad or cut, or it finds that no set has such a run, however many attempts fail.
 #![tactic(auto)]
 
 mod again;

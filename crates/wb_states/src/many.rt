@@ -1,4 +1,4 @@
-//! Whether the states that a search keeps are all different, so that they may be counted. How they are found is not decided here.
+//! Whether all states that a search keeps are different, so that they may be counted. This file doesn't decide how states are found.
 
 ghost use Rattle.std.specs.Prelude.{◌≡◌, ◌<◌, length, true, slice_get, Some};
 ghost use Rattle.wb_states.specs.Many.{IsInOrder, IsMetOf};
@@ -11,7 +11,8 @@ use crate::search::Search;
 use crate::state::State;
 
 impl<'a> Search<'a> {
-    /// Whether a state, the one at an index, has a set of at most so many attempts, and comes after the state before it.
+    /// Whether the state at the index `at` has a set of at most `failures` attempts, and comes after the previous state in the order of
+    /// sets and attempts.
     fn is_in_order(&self, at: usize, state: &State, failures: u32) -> bool
         ensures { result ≡ true → IsInOrder self.now.states failures at state.now }
     {
@@ -27,7 +28,7 @@ impl<'a> Search<'a> {
         }
     }
 
-    /// The same of the state at an index; `false` where there is none.
+    /// Whether there is a state at an index, and `is_in_order` is `true` for this state.
     fn is_in_order_at(&self, at: usize, failures: u32) -> bool
         ensures { result ≡ true → (state : State) → slice_get self.now.states at ≡ Some state →
             IsInOrder self.now.states failures at state }
@@ -38,8 +39,9 @@ impl<'a> Search<'a> {
         }
     }
 
-    /// Whether each state comes after the one before it, so that no pair of a set and a number of attempts is there twice, and no set has more
-    /// than `failures` attempts. This holds where no larger sets were followed, since states are found in order.
+    /// Whether no state's set has more than `failures` attempts, and each state comes after the previous state in the order of sets and
+    /// attempts. Then no pair of a set and a number of attempts occurs twice. The result is `true` if no sets of more than `failures`
+    /// attempts were followed, because states are found in order.
     pub(crate) fn are_different(&self, failures: u32) -> bool
         requires sound { IsSound self.now }
         requires many { self.now.allowed < length self.now.states }

@@ -1,4 +1,4 @@
-//! Runs that have come to a state that is kept. Which states are compared with a run is not decided here.
+//! Runs that have come to a state that is kept. This file doesn't decide which states are compared with a run.
 
 ghost use Rattle.std.specs.Prelude.{◌≡◌, false, true};
 ghost use Rattle.wb_machine.specs.Alike.{GoesOnLike};
@@ -9,7 +9,7 @@ use crate::state::State;
 use wb_heap_model::heap::Numbers;
 use wb_machine::Machine;
 
-/// The first attempt that fails under only one of two sets; `None` if the sets are the same. Both ascend.
+/// The first attempt that fails under only one of two sets; `None` if the sets are the same. Both sets ascend.
 fn first_apart(set: &[u32], other: &[u32]) -> Option<u32> {
     let (mut left, mut other_left) = (set, other);
     while let [number, rest @ ..] = left {
@@ -34,9 +34,9 @@ fn one_run_until(fork: &Machine, set: &Numbers, state: &State) -> u32 {
     }
 }
 
-/// Whether a run asks for an attempt next, and goes on like a run that has come to a state. The first comparison lets each allocation
-/// number stand for any other, for at most 64 numbers. The second lets the numbers of attempts that were made while both were one run stand
-/// for themselves, however many these are.
+/// Whether a run asks for an attempt next, and goes on like a run that has come to a state. Two comparisons are tried. The first comparison
+/// may pair any allocation numbers of the two runs, but makes at most 64 pairs. In the second comparison, the allocation numbers of all
+/// attempts that both runs made as one run must be equal in both runs. Only greater numbers are paired, again in at most 64 pairs.
 fn goes_on_alike(fork: &Machine, set: &Numbers, state: &State, machine: &Machine) -> bool
     requires script { machine.now.script ≡ fork.now.script }
     ensures alike { result ≡ true → GoesOnLike fork.now machine.now }
@@ -47,8 +47,8 @@ fn goes_on_alike(fork: &Machine, set: &Numbers, state: &State, machine: &Machine
             || fork.goes_on_like(machine, one_run_until(fork, set, state)))
 }
 
-/// Whether a run under a set is the same from here on as `machine`, which has come to a state, except for allocation numbers. `false` may
-/// also be returned if it is the same, and is always returned for a run that asks for no attempt next.
+/// Whether, from here on, `fork` is the same as `machine` except for allocation numbers. `fork` is a run under `set`, and `machine` has
+/// come to `state`. The result can be `false` although the two runs are the same, and is always `false` if `fork` asks for no attempt next.
 pub(crate) fn is_met(fork: &Machine, set: &Numbers, state: &State, machine: &Machine) -> bool
     requires script { machine.now.script ≡ fork.now.script }
     ensures { result ≡ true → (g : Ground) → IsUnderWay g set.now fork.now →

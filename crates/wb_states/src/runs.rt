@@ -1,5 +1,5 @@
-//! The runs of states, by the index of the state. The runs of the newest states are kept, and one run of many older states. How a dropped
-//! run is made again is decided in `again`.
+//! The runs of states, by the index of the state. The newest states all keep their runs, and one in `INTERVAL` or more of the older states
+//! keeps its run. The functions in `again` make dropped runs again.
 
 ghost use Rattle.std.specs.Prelude.{ℕ, IfSome, OnOk};
 ghost use Rattle.wb_machine.specs.Seen.{Seen};
@@ -13,14 +13,14 @@ use wb_machine::{Heap, Machine};
 /// About how many bytes the runs of the newest states may take.
 const ROOM: u64 = 4 << 20;
 
-/// About how many bytes a run takes beside its heap and its trace.
+/// About how many bytes a run takes besides its heap and its trace.
 const OWN_BYTES: u64 = 8192;
 
 /// About how many bytes an attempt takes in a trace.
 const LINE_BYTES: u64 = 24;
 
-/// Of this many older states, and one more for each `BYTES_A_STATE` bytes that a run takes, one state keeps its run: so the way from this
-/// state to the others takes no more time than a copy of the run.
+/// One of this many older states keeps its run. The number grows by one for each `BYTES_A_STATE` bytes that a run takes. So the way from
+/// the kept run to any of these states takes no more time than copying a run.
 const INTERVAL: u64 = 32;
 
 const BYTES_A_STATE: u64 = 2048;
@@ -31,7 +31,7 @@ pub(crate) struct Runs<'a> {
     pub machines: HashMap<usize, Machine<'a>>,
     /// How many states there are.
     pub states: usize,
-    /// The index of the first of the newest states. The states before it are the older ones.
+    /// The index of the first of the newest states. The states before it are the older states.
     pub newest: usize,
     /// About how many bytes the runs of the newest states take.
     pub bytes: u64,
@@ -41,8 +41,8 @@ pub(crate) struct Runs<'a> {
     pub spare: Option<Heap>,
 }
 
-/// Written by hand, so that a proof about a function that drops such a value has a single call there, and only this function goes over the
-/// fields.
+/// This `drop` is written by hand, so that only this function goes over the fields. In a proof about a function that drops a `Runs`, the
+/// drop is then a single call.
 impl Drop for Runs<'_> {
     fn drop(self) {
         let Runs {
@@ -62,7 +62,8 @@ fn bytes_of(machine: &Machine) -> u64 {
     own + LINE_BYTES * u64::from(machine.attempts())
 }
 
-/// Whether the state at the index `at` keeps its run, which takes `bytes` bytes, however many newer states there are. The first state does.
+/// Whether the state at the index `at` keeps its run permanently, however many newer states there are. The run takes `bytes` bytes. The
+/// first state always keeps its run.
 fn stays(at: usize, bytes: u64) -> bool {
     at as u64 % (INTERVAL + bytes / BYTES_A_STATE) == 0
 }
@@ -98,7 +99,7 @@ impl<'a> Runs<'a> {
         }
     }
 
-    /// Counts the oldest of the newest states among the older ones, and drops its run unless it stays.
+    /// Moves the oldest of the newest states to the older states, and drops the state's run unless `stays` returns `true` for the state.
     fn age(&mut self)
         ensures { AreOf self.old self.new }
     {
@@ -114,7 +115,8 @@ impl<'a> Runs<'a> {
         }
     }
 
-    /// Drops runs until the others fit into `ROOM`, but keeps the run of the newest state of all.
+    /// Moves states to the older states with `age`, until the runs of the newest states fit into `ROOM` bytes. The very newest state is
+    /// never moved.
     fn make_room(&mut self)
         ensures { AreOf self.old self.new }
     {
@@ -136,7 +138,7 @@ impl<'a> Runs<'a> {
         Ok(())
     }
 
-    /// Adds the run of a new state, whose index is greater than all indexes before. Runs of other states may be dropped then.
+    /// Adds the run of a new state, whose index is greater than all indexes before. Adding the run may drop runs of other states.
     pub fn push(&mut self, at: usize, machine: Machine<'a>) -> Result<(), NoMemory>
         ensures { OnOk result (AreOfOr self.old at machine.entry self.new) }
     {
@@ -148,7 +150,7 @@ impl<'a> Runs<'a> {
         Ok(())
     }
 
-    /// Drops the run that was made again last, unless it stays.
+    /// Drops the run of the older state that was made again last, unless `stays` returns `true` for the state.
     fn forget_revisited(&mut self)
         ensures { AreOf self.old self.new }
     {

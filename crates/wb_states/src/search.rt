@@ -1,4 +1,4 @@
-//! What a search over states has found so far, and which state is which. How runs go on from a state is not decided here.
+//! What a search over states has found so far. This file doesn't decide how runs go on from a state.
 
 use crate::runs::Runs;
 use crate::state::{Edge, Shown, State};
@@ -8,41 +8,43 @@ use wb_heap_model::heap::Shape;
 use wb_runs::part::Part;
 use wb_tree::script::Script;
 
-/// The states that were met, in the order of their sets and attempts, and how runs go on from each.
+/// The states that were met, in the order of their sets and attempts, and how runs go on from each state.
 pub(crate) struct Search<'a> {
     pub script: &'a Script,
     /// The greatest number of steps that a run may take.
     pub budget: u32,
     pub shape: Shape,
     pub states: Items<State>,
-    /// Their runs, of which older ones may be dropped.
+    /// The runs of the states. Runs of older states may be dropped.
     pub runs: Runs<'a>,
-    /// How runs go on whose next attempt is granted, state by state. What isn't listed is still to be followed.
+    /// For each state, how its run goes on if the next attempt is granted. The runs of the states without an entry are still to be
+    /// followed.
     pub granted: Items<Edge>,
-    /// The same of those whose next attempt fails.
+    /// For each state, how its run goes on if the next attempt fails. The runs of the states without an entry are still to be followed.
     pub failed: Items<Edge>,
-    /// The first set that was found whose run is bad or cut, and that run.
+    /// The first tried set that was found to have a run that is bad or cut, together with the result of this run.
     pub shown: Option<Shown>,
     /// Whether all sets are tried.
     pub whole: bool,
-    /// If not all sets are tried: the tried ones are those whose least number is in this part and no greater than `last`.
+    /// If not all sets are tried, a set is tried if its least number is in this part and no greater than `last`.
     pub part: Part,
     /// How many attempts the run without failure makes.
     pub last: u32,
     /// How many states may be met.
     pub allowed: u32,
-    /// Whether a run joins only states that were met with at least as many steps.
+    /// Whether a run joins a state only if the state was met with at least as many steps as the run has counted.
     pub exact: bool,
-    /// How many states were met that are the same as no other, whatever their steps.
+    /// How many different states were met. States that differ only in their steps count as one state.
     pub met: u32,
-    /// The latest state of each fingerprint.
+    /// For each fingerprint, the index of the latest state that has this fingerprint.
     pub latest: HashMap<u64, usize>,
-    /// Of each state but the first, the one before it with its fingerprint; its own index if there is none.
+    /// For each state but the first, the index of the latest state before it with the same fingerprint; its own index if there is no such
+    /// state.
     pub earlier: Items<usize>,
 }
 
-/// Written by hand, so that a proof about a function that drops such a value has a single call there, and only this function goes over the
-/// fields.
+/// This `drop` is written by hand, so that only this function goes over the fields. In a proof about a function that drops a `Search`, the
+/// drop is then a single call.
 impl Drop for Search<'_> {
     fn drop(self) {
         let Search {

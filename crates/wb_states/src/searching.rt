@@ -1,4 +1,4 @@
-//! A search over states, by how many attempts fail, until an answer is known.
+//! A search over states, with more and more attempts that fail, until an answer is known.
 
 ghost use Rattle.std.specs.Prelude.{◌≡◌, ℕ, ◌+◌, ◌^◌, ◌<◌, ◌≤◌, List, [], length, true, false, IfOk, IfSome, OnOk, IsTrue};
 ghost use Rattle.wb_heap_model.specs.Space.{is_shape};
@@ -35,27 +35,28 @@ use wb_tree::script::Script;
 /// What a search over states finds.
 #[derive(Debug, Drop)]
 pub enum Searched {
-    /// The least set that is tried whose run is bad or cut.
+    /// The least tried set whose run is bad or cut.
     Shown(Shown),
-    /// No set that is tried has a run that is bad or cut, however many attempts the set has.
+    /// No tried set has a run that is bad or cut, however many attempts the set has.
     Fine,
-    /// No set of at most so many attempts that is tried has a run that is bad or cut. Nothing is known of larger sets.
+    /// No tried set of at most this many attempts has a run that is bad or cut. Nothing is known of larger sets.
     FineTo(u32),
-    /// The same, since more states were met than were allowed.
+    /// No tried set of at most this many attempts has a run that is bad or cut. The search ended because it met more states than were
+    /// allowed.
     ManyStates(u32),
 }
 
 /// What is known after further runs were followed.
 #[derive(Debug, Drop)]
 enum Looked {
-    /// The answer; `None` if the runs that were followed don't tell.
+    /// The answer; `None` if the followed runs don't show an answer.
     Known(Option<Searched>),
     /// Runs of sets of more attempts must be followed.
     GoesOn,
 }
 
 impl<'a> Search<'a> {
-    /// Whether no set within a bound has a run that is bad or cut; also `false` if the runs that were followed don't tell.
+    /// Whether no set within a bound has a run that is bad or cut; also `false` if the followed runs don't show this.
     fn shows_none_within(&self, alloc: Global, bound: &Bound) -> Result<bool, NoMemory>
         requires sound { IsSound self.now }
         ensures { IfOk result (λ none. none ≡ true → (numbers : List ℕ) →
@@ -70,7 +71,7 @@ impl<'a> Search<'a> {
         self.is_closed(&most, bound)
     }
 
-    /// The answer that no set of at most `most` attempts has a run that is bad or cut; `None` if the runs that were followed don't tell.
+    /// The answer that no set of at most `most` attempts has a run that is bad or cut; `None` if the followed runs don't show this.
     fn answer_to(&self, alloc: Global, most: u32) -> Result<Option<Searched>, NoMemory>
         requires sound { IsSound self.now }
         ensures fine { IfOk result (λ answer. IfSome answer (IsAnswer (ground_of self.now))) }
@@ -83,9 +84,9 @@ impl<'a> Search<'a> {
         }
     }
 
-    /// The answer that more states were met than are allowed, once the runs of all sets of at most `fewer` attempts were followed; `None` if
-    /// the runs that were followed don't tell. An exact search with `fewer` 0 may give up before it has followed the run without failure to its
-    /// end; that this run shows nothing is known before.
+    /// The answer that more states were met than are allowed, after the runs of all sets of at most `fewer` attempts were followed. The
+    /// result is `None` if the followed runs don't show this answer. An exact search with `fewer` 0 may give up before it has followed the
+    /// run without failure to its end. The caller of the search knows that the run without failure shows nothing.
     fn answer_of_many(&self, alloc: Global, fewer: u32) -> Result<Option<Searched>, NoMemory>
         requires sound { IsSound self.now }
         requires few { fewer + 1 < 2 ^ 32 }
@@ -104,7 +105,7 @@ impl<'a> Search<'a> {
         Ok(Some(Searched::ManyStates(fewer)))
     }
 
-    /// The answer that no set has a run that is bad or cut; `None` if the runs that were followed don't tell.
+    /// The answer that no set has a run that is bad or cut; `None` if the followed runs don't show this.
     fn answer_of_all(&self, alloc: Global) -> Result<Option<Searched>, NoMemory>
         requires sound { IsSound self.now }
         ensures { IfOk result (λ answer. IfSome answer (IsAnswer (ground_of self.now))) }
@@ -113,7 +114,7 @@ impl<'a> Search<'a> {
         Ok(none.then_some(Searched::Fine))
     }
 
-    /// The answer that the set that was found first is the least; `None` if the runs that were followed don't tell.
+    /// The answer that the set in `shown` is the least set whose run is bad or cut; `None` if the followed runs don't show this.
     fn answer_of_shown(&mut self, alloc: Global) -> Result<Option<Searched>, NoMemory>
         requires sound { IsSound self.old }
         ensures { IfOk result (λ answer. IfSome answer (IsAnswer (ground_of self.old))) }
@@ -128,7 +129,7 @@ impl<'a> Search<'a> {
         Ok(self.shown.take().map(Searched::Shown))
     }
 
-    /// Follows the runs of sets of one attempt more than so many; those of fewer were followed.
+    /// Follows the runs of sets of `fewer` + 1 attempts, and returns what is then known. The runs of smaller sets were already followed.
     fn look_further<P: Progress>(
         &mut self,
         alloc: Global,
@@ -156,7 +157,8 @@ impl<'a> Search<'a> {
         Ok(Looked::GoesOn)
     }
 
-    /// What sets of at most `most` attempts show, if no more states are met than are allowed; `None` where what was followed doesn't say it.
+    /// What the runs of sets of at most `most` attempts show, or the answer that more states were met than are allowed. The result is
+    /// `None` if the followed runs don't show an answer.
     fn look<P: Progress>(
         &mut self,
         alloc: Global,
@@ -182,7 +184,7 @@ fn is_whole(part: Part, last: u32) -> bool
     part.from == 0 && last <= part.to
 }
 
-/// What a search by a plan finds; `None` if the runs that were followed don't tell.
+/// What a search by a plan finds; `None` if the followed runs don't show an answer.
 fn search_by<P: Progress>(
     alloc: Global,
     script: &Script,
@@ -211,13 +213,14 @@ fn search_by<P: Progress>(
     Ok(search.look(alloc, most, progress)?)
 }
 
-/// The least set of at most `most` attempts that makes the run bad or cuts it if they fail together, of those that are tried of a part; that
-/// no set does, however many attempts it has; or that none of at most so many does. The run without failure makes `last` attempts, and no
-/// single failure shows anything.
+/// Searches the tried sets of a part for the least set that has at most `most` attempts and whose run is bad or cut. The answer is this
+/// set, or that there is no such tried set: either of any size, or of at most some number of attempts. The run without failure makes `last`
+/// attempts, and no single failure in the part makes the run bad or cuts it.
 ///
-/// States before an attempt that are the same but for allocation numbers are followed once, and at most `states` of them: if there are more,
-/// the answer is about sets of fewer attempts. Where the budget may cut a run that joined a state with more steps, states are followed once
-/// more for each that is met with more steps than before.
+/// If states before an attempt are the same except for allocation numbers, only one of them is followed. The search ends once it has met
+/// more than `states` states, and the answer is then about smaller sets than those being followed. The budget may cut a run that joined a
+/// state with more steps than the state's own run. If this can't be ruled out, a second search follows a state again each time the state is
+/// met with more steps than before.
 pub fn search_states<P: Progress>(
     alloc: Global,
     script: &Script,
@@ -264,7 +267,8 @@ pub fn search_states<P: Progress>(
     }
 }
 
-/// An answer, where the run of each single failure is known to be fine.
+/// The answer, given that the run of each single failure is known to be fine: the number in a `FineTo` or `ManyStates` answer becomes at
+/// least 1.
 fn at_least_one(answer: Searched) -> Searched
     ensures { result ≡ at_least_one answer }
 {

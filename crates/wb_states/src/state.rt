@@ -1,9 +1,9 @@
-//! The states that a search keeps, and how runs go on from them. How they are found is not decided here.
+//! The states that a search keeps, and how runs go on from these states. This file doesn't decide how states are found.
 
 use wb_heap_model::heap::Numbers;
 use wb_meaning::run::RunResult;
 
-/// What a run has come to under a set of attempts that fail, before an attempt past all of them.
+/// What a run has come to just before an attempt. The attempts of a set fail in the run, and the run has already made all of them.
 #[derive(Drop)]
 pub(crate) struct State {
     /// The numbers of the set's attempts, in ascending order. All of them were made.
@@ -16,10 +16,10 @@ pub(crate) struct State {
     pub before: usize,
 }
 
-/// How a run goes on from a state, after its next attempt was granted or made to fail.
+/// How a run goes on from a state, after the run's next attempt was granted or made to fail.
 #[derive(Clone, Copy, Debug, PartialEq, Eq)]
 pub(crate) enum Edge {
-    /// The run comes to the same as the state at index `state`, except for allocation numbers, and has then counted `steps` steps.
+    /// Except for allocation numbers, the run comes to the state at the index `state`. By then, the run has counted `steps` steps.
     Joins { state: usize, steps: u32 },
     /// The run makes no further attempt, is neither bad nor cut, and takes `steps` steps in all.
     Ends { steps: u32 },
@@ -27,11 +27,11 @@ pub(crate) enum Edge {
     Shows,
     /// No set that begins with the run's set is tried.
     Untried,
-    /// The run wasn't followed, since no run came to its state again.
+    /// The run wasn't followed, because the state's run was dropped and couldn't be made again.
     Unknown,
 }
 
-/// A set of attempts that fail, whose run is bad or cut, and that run.
+/// A set of attempts, and the result of the run in which these attempts fail. The run is bad or cut.
 #[derive(Debug, Drop)]
 pub struct Shown {
     /// The numbers of the attempts that fail, in ascending order.

@@ -36,8 +36,8 @@ fn go_to_attempt(machine: &mut Machine) -> Result<Option<u32>, NoMemory>
     }
 }
 
-/// Takes the turn that makes an attempt, and then turns until the next turn asks for another, and returns `None`. If the run ends first,
-/// returns how many attempts it made.
+/// Takes the turn that makes an attempt, then takes turns until the next turn asks for a further attempt, and returns `None`. If the run
+/// ends first, returns how many attempts it made.
 pub(crate) fn go_past_attempt(machine: &mut Machine) -> Result<Option<u32>, NoMemory>
     requires asks { machine.old.asks ≡ true }
     requires going { machine.old.over ≡ false }

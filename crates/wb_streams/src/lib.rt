@@ -1,4 +1,4 @@
-//! Streams of bytes, to read from and to write to, one call of the system at a time.
+//! Streams of bytes, to read from and to write to, with one system call at a time.
 #![tactic(auto)]
 
 pub mod streams;

@@ -1,7 +1,7 @@
-//! One read and one write, and whether they failed. What is read and written, and how often, is decided elsewhere.
+//! One read and one write, and whether they failed. The callers decide what is read and written, and how often.
 //!
-//! What a read or a write does to a stream is a relation that contracts name, and into which none looks. So a body that reads again, after
-//! a failed read or at the end of the source, is never taken for a body that reads once.
+//! What a read or a write does to a stream is a relation that contracts name without looking into it. So a body that reads again, after a
+//! failed read or at the end of the source, is never taken for a body that reads once.
 
 ghost use Rattle.std.specs.Prelude.{◌<◌, ◌≤◌, ℕ, List, Bool, Option, ⊤, length, IfOk, is_err};
 ghost use Rattle.std.specs.Io.{ReadsAtMost, WritesAtMost};
@@ -20,7 +20,7 @@ pub trait Source {
     /// The bytes that are still to be read; `None` if they aren't known.
     ghost remaining: { Self → Option (List ℕ) };
 
-    /// What one read does, as a relation between the source before it, what the read comes to, and the source after it.
+    /// What one read does, as a relation between the source before the read, the result of the read, and the source after it.
     ghost reads: { Self → Came → Self → Type 0 };
 
     /// One call of the system's `read`.
@@ -45,7 +45,7 @@ pub trait Sink {
     /// The bytes that the sink holds; `None` if they aren't known.
     ghost contents: { Self → Option (List ℕ) };
 
-    /// What one write does, as a relation between the sink before it, whether the write fails, and the sink after it.
+    /// What one write does, as a relation between the sink before the write, whether the write fails, and the sink after it.
     ghost writes: { Self → Bool → Self → Type 0 };
 
     /// One call of the system's `write`.
@@ -65,8 +65,8 @@ impl<W: Write> Sink for W {
     }
 }
 
-/// Reads once into a buffer that isn't empty. Returns how many bytes came; 0 means that the source is at its end, and that nothing more is
-/// to be read. An error of the source is a `StreamFault`, also if the read was merely interrupted.
+/// Reads once into a buffer that isn't empty, and returns how many bytes came. The number 0 means that the source is at its end and has
+/// nothing more to read. An error of the source is a `StreamFault`, even if the read was merely interrupted.
 pub fn read_some<R: Source>(reader: &mut R, buffer: &mut [u8]) -> Result<usize, StreamFault>
     requires { 0 < length buffer.old }
     ensures bound { ReadsAtMost result buffer.new }
@@ -80,8 +80,8 @@ pub fn read_some<R: Source>(reader: &mut R, buffer: &mut [u8]) -> Result<usize, 
     }
 }
 
-/// Writes once, from at least one byte. Returns how many bytes the sink took, at least one. An error of the sink is a `StreamFault`, and so
-/// is a call that took no byte.
+/// Writes once, from at least one byte. Returns how many bytes the sink took, which is at least one. An error of the sink is a
+/// `StreamFault`, and so is a call that took no byte.
 pub fn write_some<W: Sink>(writer: &mut W, bytes: &[u8]) -> Result<usize, StreamFault>
     requires { 0 < length bytes.now }
     ensures bound { IfOk result (λ n. (0 < n) × (n ≤ length bytes.now)) }

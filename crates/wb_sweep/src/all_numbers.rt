@@ -24,7 +24,7 @@ use wb_basics::items::Items;
 use wb_basics::limits::LARGEST_BUDGET;
 use wb_basics::memory::NoMemory;
 use wb_heap_model::heap::Shape;
-use wb_machine::{Heap, Machine, RunFault, run};
+use wb_machine::{Heap, Machine, RunFault, run, run_reporting};
 use wb_meaning::run::{Outcome, RunResult, Why};
 use wb_runs::failures::{Failing, Failures};
 use wb_runs::number_ends::{NumberEnd, NumberEnds};
@@ -33,7 +33,7 @@ use wb_runs::progress::{Aim, Progress};
 use wb_runs::run_end::RunEnd;
 use wb_tree::script::Script;
 
-/// Whether a number is listed if its run ended in this way.
+/// Whether a number is listed if its run ended as `end` says.
 fn is_listed(listing: Listing, end: RunEnd) -> bool
     ensures { result ≡ is_listed_end listing end }
 {
@@ -43,7 +43,7 @@ fn is_listed(listing: Listing, end: RunEnd) -> bool
     }
 }
 
-/// Adds a number and the end of its run to the list, or nothing if the number isn't listed.
+/// Adds a number and the end of its run to the list. Adds nothing if `listing` leaves out numbers with this end.
 fn tell(ends: &mut NumberEnds, listing: Listing, number: u32, end: RunEnd) -> Result<(), NoMemory>
     ensures { OnOk result (ends.new ≡ ends.old ++ line_if_told listing number end) }
 {
@@ -53,8 +53,8 @@ fn tell(ends: &mut NumberEnds, listing: Listing, number: u32, end: RunEnd) -> Re
     Ok(())
 }
 
-/// How the run of a fork ended. If the fork met the scout, its run ended like the run without failure, whose end is `first`, unless the
-/// budget cuts it.
+/// How the run of a fork ended. `first` is how the run without failure ended. If the fork met the scout, the fork's run also ended as
+/// `first` says, unless the budget cuts it.
 fn end_of_fork(forked: &Forked, first: RunEnd) -> RunEnd
     ensures { (first_result run_result : RunResult) →
         ForkedSays forked.now first_result run_result → first ≡ end_of first_result.outcome →
@@ -67,8 +67,8 @@ fn end_of_fork(forked: &Forked, first: RunEnd) -> RunEnd
     }
 }
 
-/// Adds number 0 and the end of its run, which is `first`, to the list, if the part has number 0 and that number is listed. `Cut` if the
-/// run is cut.
+/// Adds number 0 and the end of its run to the list. The run, `first`, is the run without failure. Adds nothing if the part doesn't have
+/// number 0, or if `listing` leaves out numbers with this end. Returns `Cut` if the run is cut.
 #[tactic(auto, using(crate::proofs::TellLemmas::line_by_end))]
 fn tell_first(
     ends: &mut NumberEnds,
@@ -94,9 +94,10 @@ fn tell_first(
     Ok(())
 }
 
-/// Adds `number`, the attempt that the lead makes next, and the end of the run in which it is the first to fail. Adds nothing if `number`
-/// isn't listed, if it is less than `from`, or if the lead's next turn makes no attempt. A fork follows that run until it meets the scout,
-/// if there is one; the fork takes the spare memory, and leaves its own. `first` is the end of the run without failure.
+/// Adds `number`, the attempt that the lead makes next, and the end of the run in which this attempt is the first to fail. Adds nothing if
+/// `listing` leaves out numbers with this end, if `number` is less than `from`, or if the lead's next turn makes no attempt. A fork follows
+/// the run until it meets the scout, if there is a scout. The fork takes the spare memory, and leaves its own memory as spare. `first` is
+/// how the run without failure ended.
 fn tell_next<P: Progress>(
     ends: &mut NumberEnds,
     listing: Listing,
@@ -136,8 +137,8 @@ fn tell_next<P: Progress>(
     tell(ends, listing, number, end_of_fork(&forked, first))
 }
 
-/// Adds the listed numbers from `from` to `last`, which is no greater than the last attempt of the run without failure. The lead is that
-/// run at its start, and `first` is its end. Number 0, if it is one of the numbers, was dealt with before.
+/// Adds the listed numbers from `from` to `last`. `last` is no greater than the last attempt of the run without failure. The lead is at the
+/// start of the run without failure, and `first` is how this run ends. If number 0 is one of the numbers, it was already dealt with.
 fn tell_along<P: Progress>(
     ends: &mut NumberEnds,
     listing: Listing,
@@ -185,7 +186,7 @@ fn tell_along<P: Progress>(
     Ok(())
 }
 
-/// How many of these numbers have a run that leaks or panics.
+/// How many numbers in `ends` have a run that leaks or panics.
 fn bad_count(ends: &NumberEnds) -> usize
     ensures { result ≡ bad_count ends.now }
 {
@@ -198,7 +199,7 @@ fn bad_count(ends: &NumberEnds) -> usize
     count
 }
 
-/// The first of these numbers whose run leaks or panics; `None` if there is none.
+/// The first number in `ends` whose run leaks or panics; `None` if no number's run does.
 fn first_bad(ends: &NumberEnds) -> Option<u32>
     ensures { result ≡ first_bad ends.now }
 {
@@ -210,7 +211,8 @@ fn first_bad(ends: &NumberEnds) -> Option<u32>
     None
 }
 
-/// The first of these numbers whose run leaks or panics, and that run, which is made again; `None` if there is none.
+/// The first number in `ends` whose run leaks or panics, together with this run, which is made again. The result is `None` if no number's
+/// run leaks or panics.
 fn find_first(
     alloc: Global,
     script: &Script,
@@ -233,8 +235,8 @@ fn find_first(
     Ok(Some(Found { at, result }))
 }
 
-/// Adds the listed numbers of a part from 1 on. The run without failure isn't cut, makes `last` attempts, takes `steps` steps, and has the
-/// end `first`. Number 0, if the part has it, was dealt with before.
+/// Adds the listed numbers of a part from 1 on. The run without failure isn't cut, makes `last` attempts, takes `steps` steps, and ends as
+/// `first` says. If the part has number 0, this number was already dealt with.
 fn tell_later<P: Progress>(
     ends: &mut NumberEnds,
     listing: Listing,
@@ -271,7 +273,7 @@ fn tell_later<P: Progress>(
     Ok(())
 }
 
-/// The sweep itself. `sweep_all` notifies `progress` of its beginning and its end.
+/// Does the work of `sweep_all`, which notifies `progress` of the sweep's beginning and end.
 fn tell_all<P: Progress>(
     alloc: Global,
     script: &Script,
@@ -291,7 +293,7 @@ fn tell_all<P: Progress>(
     ensures shape { (result ≡ Err SweepFault.BadShape) ↔ (is_shape shape ≡ false) }
 {
     let none = failures.at(0);
-    let first = run(alloc, script, none.rule(), budget, shape)?;
+    let first = run_reporting(alloc, script, none.rule(), budget, shape, progress)?;
     let attempts = attempts_in(first.trace.as_slice());
     let end = RunEnd::of(&first.outcome);
     let steps = first.steps;
@@ -311,12 +313,12 @@ fn tell_all<P: Progress>(
     })
 }
 
-/// Tries each number of a part, up to the last attempt of the run without failure. Returns how the run under each listed number ended, how
-/// many of these runs leak or panic, and the least number whose run does, with that run. Of `Failures::Pairs` only the single numbers are
-/// tried.
+/// Tries each number of a part, up to the last attempt of the run without failure. Returns how the run under each listed number ended, and
+/// how many of these runs leak or panic. Also returns the least number whose run leaks or panics, with this run. If the failures are pairs,
+/// only the single numbers are tried.
 ///
-/// `Cut` is returned exactly if the run without failure is cut. That run is listed only if the part has number 0. `BadShape` is returned
-/// exactly if the shape is none that a heap may have. `progress` is notified as by `sweep`.
+/// `Cut` is returned exactly if the run without failure is cut. The run without failure is listed only if the part has number 0. `BadShape`
+/// is returned exactly if no heap may have the shape. `progress` is notified as by `sweep`.
 pub fn sweep_all<P: Progress>(
     alloc: Global,
     script: &Script,

@@ -1,4 +1,4 @@
-//! A sweep over all sets of attempts that fail together, however many they are.
+//! A sweep over all sets of attempts that fail together, whatever the size of the sets.
 
 ghost use Rattle.std.specs.Prelude.{◌≡◌, ◌≢◌, ℕ, ◌+◌, ◌≤◌, ◌↔◌, List, None, true, false, IfOk, IfSome, IsTrue};
 ghost use Rattle.wb_tree.specs.Sound.{is_script};
@@ -27,7 +27,7 @@ use wb_runs::progress::{Aim, Progress};
 use wb_states::{Searched, Shown, search_states};
 use wb_tree::script::Script;
 
-/// Judges a set whose run is bad or cut: returns the set if its run is bad, and `Cut` if it is cut.
+/// Judges a set whose run is bad or cut: returns the set if its run is bad, and `Cut` if its run is cut.
 fn judge_shown(shown: Shown) -> Result<Option<FoundSet>, EverySetFault>
     ensures fine { IfOk result (λ found. found ≡ None → is_fine shown.result ≡ true) }
     ensures bad { IfOk result (λ found. IfSome found (IsBadSet shown.numbers shown.result)) }
@@ -40,8 +40,8 @@ fn judge_shown(shown: Shown) -> Result<Option<FoundSet>, EverySetFault>
     Ok(judge_set(numbers, result)?)
 }
 
-/// The least set of a part whose run is bad; `None` if the run of each set is fine. The runs of the sets of at most one number are known to
-/// be fine. The run without failure makes `attempts` attempts, and at most `states` states may be met.
+/// Finds the least set whose run is bad, of the sets of a part. Returns `None` if the run of each of these sets is fine. The runs of the
+/// sets of at most one number are known to be fine. The run without failure makes `attempts` attempts. At most `states` states may be met.
 fn search_every_set<P: Progress>(
     alloc: Global,
     script: &Script,
@@ -85,7 +85,7 @@ fn search_every_set<P: Progress>(
     match searched {
         Ok(Searched::Fine) => Ok(None),
         Ok(Searched::ManyStates(fine)) => Err(EverySetFault::ManyStates { fine }),
-        // no search is known to end so, and `ManyStates` would lack its clause
+        // no search is known to end with `FineTo`; if one did, `ManyStates` would lack its clause `met`
         Ok(Searched::FineTo(_)) => Err(EverySetFault::NoMemory),
         Ok(Searched::Shown(shown)) => judge_shown(shown),
         Err(RunFault::BadShape) => Err(EverySetFault::BadShape),
@@ -93,7 +93,7 @@ fn search_every_set<P: Progress>(
     }
 }
 
-/// The sweep itself. The caller notifies `progress` of its beginning and its end.
+/// Does the work of `sweep_every_set`, which notifies `progress` of the sweep's beginning and end.
 fn find_among_all<P: Progress>(
     alloc: Global,
     script: &Script,
@@ -132,15 +132,16 @@ fn find_among_all<P: Progress>(
     Ok(SetSweep { attempts, found })
 }
 
-/// The least set of attempts, however many, that makes the run bad if they fail together, of those whose least number is the part's and
-/// no greater than the last attempt of the run without failure. Sets are in the order of `sweep_sets`.
+/// Finds the least set, of any size, whose attempts make the run bad if all of them fail; finds none if there is no such set. The set's
+/// least number must be in the part and no greater than the last attempt of the run without failure. Sets are in the order of `sweep_sets`.
 ///
-/// Single numbers are tried as `sweep_part` tries them. Once they show nothing, sets of two numbers and more are, for which at most so
-/// many states are met. `ManyStates` comes only where more are: it says up to how many attempts all sets were tried, none of which shows
-/// anything; the states are those of sets of one attempt more at most. `Cut` names the least set whose run is cut, where no lesser one's is
-/// bad. `BadShape` comes exactly where the shape is none that a heap may have.
+/// Single numbers are tried as `sweep_part` tries them. If they show nothing, larger sets are tried, by meeting at most `states` states of
+/// their runs. `ManyStates` is returned only if there are more states. `ManyStates` names a number of attempts: all sets of at most this
+/// many attempts were tried and show nothing. The states that were met are states of sets that have at most one attempt more than this
+/// number. `Cut` names the least set whose run is cut, if no lesser set's run is bad. `BadShape` is returned exactly if no heap may have
+/// the shape.
 ///
-/// `progress` is notified that the sweep begins, of each failure that is tried before its run, and that the sweep is over.
+/// `progress` is notified when the sweep begins, before the run under each failure that is tried, and when the sweep is over.
 pub fn sweep_every_set<P: Progress>(
     alloc: Global,
     script: &Script,

@@ -8,7 +8,7 @@ use wb_meaning::run::Why;
 /// Why a sweep over all sets has no answer.
 #[derive(Debug, Drop)]
 pub enum EverySetFault {
-    /// A minimum length or a growth step that no heap may have.
+    /// The minimum length or the growth step is one that no heap may have.
     BadShape,
     /// The run in which these attempts fail was cut, and no lesser set's run was bad or cut.
     Cut { numbers: Numbers, why: Why },

@@ -8,7 +8,7 @@ use wb_runs::failures::Failing;
 /// Why a sweep has no answer.
 #[derive(Clone, Copy, Debug, PartialEq, Eq)]
 pub enum SweepFault {
-    /// A minimum length or a growth step that no heap may have.
+    /// The minimum length or the growth step is one that no heap may have.
     BadShape,
     /// The run under this failure was cut, and no lesser failure's run was bad or cut.
     Cut { at: Failing, why: Why },

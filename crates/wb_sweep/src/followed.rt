@@ -1,4 +1,5 @@
-//! What is known of a fork's run. A fork is followed until it meets the scout, if there is one, or to its end.
+//! What is known of a fork's run. A fork is followed until it meets the scout, a run that goes ahead, or until it ends. If there is no
+//! scout, the fork is followed to its end.
 
 ghost use Rattle.std.specs.Prelude.{◌≡◌, ◌+◌, None, false, IfOk, IfSome, OnOk};
 ghost use Rattle.wb_machine.specs.Turns.{IsSameRun};
@@ -46,7 +47,7 @@ fn meet_one(
     Ok(scout.meeting(fork, failures, number))
 }
 
-/// The same if there is a scout; `None` if there is none.
+/// Lets a fork meet the scout, and returns what follows for the fork; `None` if there is no scout, or the two don't meet soon.
 fn meet(
     scout: &mut Option<Scout>,
     fork: &mut Machine,
@@ -73,10 +74,10 @@ fn meet(
 }
 
 /// What is known of the run under the failure that is tried as `number`. The first attempt that this failure makes fail is `number`, which
-/// the lead makes next. A copy of the lead goes on under this failure until it meets the scout, if there is one, or to its end. The lead
+/// the lead makes next. A copy of the lead goes on under this failure to its end, or until it meets the scout if there is a scout. The lead
 /// stays as it is.
 ///
-/// The copy takes the memory in `spare`, if there is any, and leaves its own memory there; on `Err` no memory is left there.
+/// The copy takes the memory in `spare`, if there is any, and leaves its own memory in `spare`, except on `Err`.
 pub fn follow_next(
     lead: &Machine,
     failures: Failures,
@@ -106,7 +107,8 @@ pub fn follow_next(
     Ok(Forked::Ran(end_fork(fork, spare)?))
 }
 
-/// The same for a lead whose own run is fine: the run of a fork that has met the scout is fine, too, unless the budget cuts it.
+/// Does what `follow_next` does, for a lead whose own run is fine. If a fork of this lead has met the scout, the fork's run is fine too,
+/// unless the budget cuts it.
 pub fn follow_beside_fine(
     lead: &Machine,
     failures: Failures,

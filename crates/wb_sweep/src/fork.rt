@@ -1,4 +1,4 @@
-//! Copies of a run that go on under another rule. Which rules a sweep tries is not decided here.
+//! Copies of a run that go on under another rule. This file doesn't decide which rules a sweep tries.
 
 ghost use Rattle.std.specs.Prelude.{◌≡◌, false, IfOk};
 ghost use Rattle.wb_heap_model.specs.SameRules.{SameSoFar};
@@ -9,8 +9,8 @@ use wb_heap_model::heap::Rule;
 use wb_machine::{Finished, Heap, Machine};
 use wb_meaning::run::RunResult;
 
-/// A copy of a run under way that goes on under another rule. Of the attempts made so far, both rules make the same ones fail, and neither
-/// rule is a limit. The run itself stays as it is.
+/// A copy of a run under way. The copy goes on under another rule. Both rules make the same past attempts fail, and neither rule is a
+/// limit. The run itself stays as it is.
 ///
 /// The copy takes the memory in `spare`, if there is any.
 pub(crate) fn fork_under<'a>(
@@ -29,7 +29,7 @@ pub(crate) fn fork_under<'a>(
     Ok(fork)
 }
 
-/// Takes a fork to its end, and returns its result. Its memory is left in `spare`; on `Err` no memory is left there.
+/// Takes a fork to its end, and returns its result. The fork's memory is left in `spare`, except on `Err`.
 pub(crate) fn end_fork(fork: Machine, spare: &mut Option<Heap>) -> Result<RunResult, NoMemory>
     requires lines { fork.keeps_rises ≡ false }
     ensures { IfOk result (λ run_result.
@@ -40,11 +40,10 @@ pub(crate) fn end_fork(fork: Machine, spare: &mut Option<Heap>) -> Result<RunRes
     Ok(result)
 }
 
-/// The result of a run under way if it goes on under another rule. Of the attempts made so far, both rules make the same ones fail, and
-/// neither rule is a limit. A copy of the run goes on to its end, and the run itself stays as it is. The machine is one made by
-/// `Machine::new`.
+/// The result of a run under way if it goes on under another rule. Both rules make the same past attempts fail, and neither rule is a
+/// limit. A copy of the run goes on to its end, and the run itself stays as it is. The machine must be one that `Machine::new` made.
 ///
-/// The copy takes the memory in `spare`, if there is any, and leaves its own memory there; on `Err` no memory is left there.
+/// The copy takes the memory in `spare`, if there is any, and leaves its own memory in `spare`, except on `Err`.
 pub fn result_under(
     lead: &Machine,
     rule: Rule,

@@ -4,7 +4,7 @@ use wb_meaning::run::RunResult;
 use wb_runs::failures::Failing;
 use wb_runs::number_ends::NumberEnds;
 
-/// The least failure whose run is bad, and that run.
+/// The least failure whose run is bad, together with this run.
 #[derive(Debug, Drop)]
 pub struct Found {
     pub at: Failing,
@@ -23,7 +23,7 @@ pub struct Sweep {
 pub enum Listing {
     /// The numbers whose run leaks, panics or is cut.
     Unfine,
-    /// Every number, also one whose run is fine.
+    /// Every number, even if its run is fine.
     Every,
 }
 
@@ -36,6 +36,6 @@ pub struct AllNumbers {
     pub ends: NumberEnds,
     /// How many of these numbers have a run that leaks or panics.
     pub bad: usize,
-    /// The least number whose run leaks or panics, and that run; `None` if there is none.
+    /// The least number whose run leaks or panics, together with this run; `None` if there is no such number.
     pub found: Option<Found>,
 }

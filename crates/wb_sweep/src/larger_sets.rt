@@ -1,5 +1,5 @@
-//! A sweep over sets of two attempts and more, once the run of each single attempt is fine: first by states, and by a walk over the sets if
-//! the states become too many.
+//! A sweep over sets of two or more attempts, made after the run of each single attempt turned out fine. The sweep follows states first. If
+//! the states become too many, the sweep walks over the sets.
 
 ghost use Rattle.std.specs.Prelude.{◌≡◌, ◌≢◌, ◌⊎◌, ℕ, ◌<◌, ◌≤◌, List, None, false, length, true, IfOk, IfSome, IsTrue};
 ghost use Rattle.wb_tree.specs.Sound.{is_script};
@@ -24,8 +24,8 @@ use wb_runs::progress::Progress;
 use wb_states::{Searched, Shown, search_states};
 use wb_tree::script::Script;
 
-/// Judges a set whose run is bad or cut, in a search for sets of at most `most` numbers: returns the set if its run is bad, `Cut` if it is
-/// cut, and `None` if the set has more numbers.
+/// Judges a set whose run is bad or cut, in a search for sets of at most `most` numbers. Returns the set if its run is bad, `Cut` if its
+/// run is cut, and `None` if the set has more than `most` numbers.
 fn judge_shown(shown: Shown, most: u32) -> Result<Option<FoundSet>, SetFault>
     ensures none { IfOk result (λ found. found ≡ None →
         (is_fine shown.result ≡ true) ⊎ (most < length shown.numbers)) }
@@ -43,11 +43,12 @@ fn judge_shown(shown: Shown, most: u32) -> Result<Option<FoundSet>, SetFault>
     judge_set(numbers, result)
 }
 
-/// The least set of at most `most` numbers whose run is bad, of the sets of a part that are tried; `None` if the run of each is fine. The
-/// runs of the sets of at most one number are known to be fine. The run without failure makes `last` attempts.
+/// Finds the least set whose run is bad, of the tried sets of a part that have at most `most` numbers. Returns `None` if the run of each of
+/// these sets is fine. The runs of the sets of at most one number are known to be fine. The run without failure makes `last` attempts.
 ///
-/// States before an attempt that are the same except for allocation numbers are followed once. No more states are met than the sets are
-/// worth. If there are more, the sets themselves are tried, from those of one number more than the sets that the states have answered.
+/// If states before an attempt are the same except for allocation numbers, only one of them is followed. No more states are met than the
+/// sets are worth. If there are more states, the sets themselves are tried, beginning with the smallest sets that the states haven't
+/// answered.
 pub(crate) fn find_larger<P: Progress>(
     alloc: Global,
     script: &Script,

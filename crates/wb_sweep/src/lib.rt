@@ -1,6 +1,5 @@
-//! The least failure whose run leaks or panics, of all failures or of a part of them, and how the run under each number ends. A failure is
-//! one attempt that fails, an attempt from which on all fail, a rate at which attempts fail, or a pair or a set of attempts that fail
-//! together.
+//! Finds the least failure whose run leaks or panics, among all failures or a part of them, and tells how the run under each number ends. A
+//! failure is what is made to fail: one attempt, all attempts from one on, the multiples of a rate, a pair or a set.
 #![tactic(auto)]
 
 mod all_numbers;
@@ -37,5 +36,5 @@ pub use wb_machine::RunFault;
 pub use wb_meaning::run::{RunResult, Why};
 pub use wb_runs::failures::{Failing, Failures};
 pub use wb_runs::part::Part;
-pub use wb_runs::progress::{Aim, Progress, Silent};
+pub use wb_runs::progress::{Aim, Progress, Silent, StepProgress};
 pub use wb_tree::script::Script;

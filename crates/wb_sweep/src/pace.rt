@@ -1,35 +1,36 @@
-//! How far ahead a scout goes, and which forks are compared with it at all. Nothing here changes what a sweep answers, only what it costs.
+//! How far a scout goes ahead of the run that forks are copied from, and which forks are compared with the scout at all. Nothing here
+//! changes what a sweep answers, only how long it takes.
 
-/// How many attempts a scout goes ahead of a fork's failure at most: one of 0, 1, 3, 7 and so on, each of which is twice the one before and
-/// one more.
+/// The most attempts that a scout goes ahead of a fork's failure. The distance is 0, 1, 3, 7 and so on: each is twice the distance before
+/// it, plus one.
 const MOST_AHEAD: u32 = 63;
 
-/// How many attempts a scout may be ahead at most if it is to go further ahead of the same fork once more: a fork that never meets the
-/// scout shouldn't make it go far.
+/// If the scout has already gone further ahead of a fork, and is now more attempts ahead than this, it goes no further ahead of this fork.
+/// So a fork that never meets the scout doesn't make the scout go far.
 const MOST_AT_ONCE: u32 = 7;
 
-/// How many attempts more than the scout a fork may have made, at most, before it has passed the scout: a fork that tries a failed attempt
-/// again makes more attempts.
+/// The most attempts by which a fork may be past the scout before it counts as having passed the scout. A fork that tries a failed attempt
+/// again makes more attempts than the scout.
 const MOST_PAST: u32 = 4;
 
-/// How many forks must have met a scout before it goes less far ahead.
+/// How many forks must have met the scout before the scout goes less far ahead.
 const PATIENCE: u32 = 4;
 
-/// For how many forks that have missed the scout one more fork passes without being compared.
+/// How many forks in a row must miss the scout to let one more of the next forks pass without being compared.
 const MISSED: u32 = 4;
 
-/// How many forks at most pass without being compared, one after the other.
+/// The most forks in a row that pass without being compared.
 const MOST_PASSED: u32 = 64;
 
-/// How far ahead a scout goes, by the forks that have met or missed it.
+/// How far ahead a scout goes, depending on which forks have met or missed it.
 #[derive(Clone, Copy, Debug)]
 pub struct Pace {
     ahead: u32,
-    /// How many forks have met the scout since it last went further or less far ahead.
+    /// How many forks have met the scout since the scout's distance last changed.
     met: u32,
-    /// How many forks have missed the scout, one after the other.
+    /// How many forks in a row have missed the scout.
     missed: u32,
-    /// How many forks are still to pass without being compared.
+    /// How many of the next forks are to pass without being compared.
     to_pass: u32,
 }
 
@@ -49,14 +50,14 @@ impl Pace {
         self.ahead
     }
 
-    /// How many attempts more than the scout a fork may have made before it has passed the scout: so few that the scout is never behind the
-    /// fork once the scout has gone further ahead.
+    /// How many attempts more than the scout a fork may have made before it has passed the scout. The number is so small that the scout is
+    /// never behind the fork after going further ahead.
     pub fn past(&self) -> u32 {
         (self.ahead / 2).min(MOST_PAST)
     }
 
-    /// Makes the scout go further ahead, after a fork has passed it; `false` if the scout already goes as far ahead as it may. `at_first`
-    /// is how far ahead of this fork it went at first.
+    /// Makes the scout go further ahead after a fork has passed it; `false` if the scout already goes as far ahead as it may. `at_first` is
+    /// how far ahead of this fork the scout went at first.
     pub fn go_further(&mut self, at_first: u32) -> bool {
         let is_enough = self.ahead > MOST_AT_ONCE && self.ahead > at_first;
         if is_enough || self.ahead >= MOST_AHEAD {
@@ -76,8 +77,8 @@ impl Pace {
         true
     }
 
-    /// Takes note of a fork that has met the scout, or missed it. After a few forks that have met it, the scout goes less far ahead. The
-    /// more forks have missed it one after the other, the more of the next forks pass without being compared.
+    /// Takes note of a fork that has met or missed the scout. After a few forks have met the scout, it goes less far ahead. The more forks
+    /// in a row have missed the scout, the more of the next forks pass without being compared.
     pub fn add(&mut self, has_met: bool) {
         if has_met {
             self.add_met();

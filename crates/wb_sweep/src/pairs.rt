@@ -1,4 +1,5 @@
-//! A sweep over pairs of attempts, once the run of each single failure is fine. It is a sweep over sets of at most two attempts.
+//! A sweep over pairs of attempts, made after the run of each single failure turned out fine. A sweep over pairs is a sweep over sets of at
+//! most two attempts.
 
 ghost use Rattle.std.specs.Prelude.{◌≡◌, ◌≤◌, None, false, IfOk, IfSome, IsTrue};
 ghost use Rattle.wb_tree.specs.Sound.{is_script};
@@ -21,7 +22,7 @@ use wb_runs::part::Part;
 use wb_runs::progress::Progress;
 use wb_tree::script::Script;
 
-/// The failure that makes the attempts of a set fail, of which there are at most two.
+/// The failure that makes the attempts of a set fail. The set has at most two attempts.
 fn failure_of(numbers: &Numbers) -> Failing
     ensures { result ≡ failure_of numbers.now }
 {
@@ -32,7 +33,7 @@ fn failure_of(numbers: &Numbers) -> Failing
     }
 }
 
-/// What was found among sets of at most two attempts, as a failure.
+/// The set that was found, of at most two attempts, as a failure together with its run.
 fn as_found(set: FoundSet) -> Found
     ensures at { result.at ≡ failure_of set.numbers }
     ensures result { result.result ≡ set.result }
@@ -43,7 +44,7 @@ fn as_found(set: FoundSet) -> Found
     }
 }
 
-/// The fault of a sweep over such sets, as a fault of a sweep over failures.
+/// The fault of a sweep over sets of at most two attempts, as a fault of a sweep over failures.
 fn as_sweep_fault(fault: SetFault) -> SweepFault
     ensures { result ≡ sweep_fault_of fault }
 {
@@ -57,8 +58,8 @@ fn as_sweep_fault(fault: SetFault) -> SweepFault
     }
 }
 
-/// The least pair of a part whose run is bad; `None` if the run of each pair is fine. The run of each single failure of the part is known
-/// to be fine. The run without failure makes `last` attempts.
+/// Finds the least pair whose run is bad, of the pairs of a part. Returns `None` if the run of each of these pairs is fine. The run of each
+/// single failure of the part is known to be fine. The run without failure makes `last` attempts.
 pub(crate) fn find_pair<P: Progress>(
     alloc: Global,
     script: &Script,

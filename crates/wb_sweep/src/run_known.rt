@@ -1,12 +1,11 @@
-//! A sweep over all failures for which the run without failure is known: if that run is fine, it isn't made again.
+//! A sweep over all failures, if the run without failure is already known. If this run is fine, it isn't made again.
 
-ghost use Rattle.std.specs.Prelude.{◌≡◌, ◌≢◌, ◌≤◌, ◌&&◌, not, IfOk, IsTrue};
+ghost use Rattle.std.specs.Prelude.{◌≡◌, ◌≢◌, ◌≤◌, IfOk, IsTrue};
 ghost use Rattle.wb_tree.specs.Sound.{is_script};
 ghost use Rattle.wb_heap_model.specs.Space.{is_shape};
 ghost use Rattle.wb_runs.specs.Parts.{last_attempt};
-ghost use Rattle.wb_meaning.specs.Run.{is_bad_outcome};
 ghost use Rattle.wb_runs.specs.SweepAnswers.{IsCutShort};
-ghost use Rattle.wb_runs.specs.Sweeps.{is_cut_outcome, runs_of};
+ghost use Rattle.wb_runs.specs.Sweeps.{runs_of};
 ghost use Rattle.wb_meaning.specs.declared.run.Why.{Why};
 ghost use Rattle.wb_sweep.specs.Sweeping.{IsSweep};
 
@@ -20,6 +19,7 @@ use wb_meaning::run::Outcome;
 use wb_runs::failures::{Failing, Failures};
 use wb_runs::part::Part;
 use wb_runs::progress::{Aim, Progress};
+use wb_runs::run_end::is_fine;
 use wb_tree::script::Script;
 
 /// All numbers.
@@ -28,20 +28,9 @@ const ALL: Part = Part {
     to: u32::MAX,
 };
 
-/// Whether a run with this outcome is neither bad nor cut.
-fn is_fine_outcome(outcome: &Outcome) -> bool
-    ensures { result ≡ (not (is_bad_outcome outcome.now) && not (is_cut_outcome outcome.now)) }
-{
-    match outcome {
-        Outcome::Ended { leaks, .. } => leaks.len() == 0,
-        Outcome::Panicked(_) | Outcome::Cut(_) => false,
-        Outcome::NoCleanup => true,
-    }
-}
-
-/// Does the same as `sweep`, given how the run without failure ends, and how many attempts and steps it makes. That run is made only if it
-/// isn't fine: then the run that is found, or cut, is that run itself. The shape is one that a heap may have, so `BadShape` is never
-/// returned. `progress` is notified as by `sweep`.
+/// Does the same as `sweep`, given how the run without failure ends, and how many attempts and steps it makes. The run without failure is
+/// made again only if it isn't fine, and then it is the run that is found or cut. The shape is one that a heap may have, so `BadShape` is
+/// never returned. `progress` is notified as by `sweep`.
 pub fn sweep_beside_known<P: Progress>(
     alloc: Global,
     script: &Script,
@@ -65,7 +54,7 @@ pub fn sweep_beside_known<P: Progress>(
         IsCutShort failures script.now budget shape at why }
     ensures shape { result ≢ Err SweepFault.BadShape }
 {
-    if !is_fine_outcome(outcome) {
+    if !is_fine(outcome) {
         return sweep(alloc, script, failures, budget, shape, progress);
     }
     progress.begin(Aim::least_of(failures));

@@ -1,5 +1,6 @@
-//! A run that goes ahead of a lead, and forks that meet it. Once a fork has come to the same state as the scout, except for allocation
-//! numbers, the rest of the fork's run is like the rest of the scout's. Which failures are tried, and what is found, is not decided here.
+//! Scouts, and forks that meet them. A scout is a run that goes ahead of a lead, and a fork is a copy of this lead under a failure. If a
+//! fork comes to the same state as the scout, except for allocation numbers, the rest of the fork's run is like the rest of the scout's.
+//! This file doesn't decide which failures are tried, or what is found.
 
 ghost use Rattle.std.specs.Prelude.{◌≡◌, ◌≤◌, true, false, Some, IfOk, IfSome, OnOk};
 ghost use Rattle.wb_machine.specs.Turns.{IsSameRun};
@@ -12,10 +13,10 @@ use wb_basics::memory::NoMemory;
 use wb_machine::{Machine, Turn};
 use wb_runs::failures::Failures;
 
-/// How many times a scout goes ahead to meet one fork, at most.
+/// The most times that a scout goes ahead to meet one fork.
 const MOST_TIMES: u32 = 5;
 
-/// Where a fork is once it was followed.
+/// Where a fork is after it was followed.
 #[derive(Clone, Copy, Debug, PartialEq, Eq)]
 pub enum Place {
     /// Where the scout is.
@@ -31,15 +32,15 @@ pub enum Place {
 pub enum Meeting {
     /// The fork's run ends as the scout's run does.
     Alike,
-    /// The budget cuts the fork's run: it doesn't allow the fork as many further steps as the scout's run takes from where they met.
+    /// The budget cuts the fork's run: it allows the fork fewer further steps than the scout's run takes after the meeting.
     PastBudget,
 }
 
-/// A run ahead of a lead, under the lead's rule. The run isn't cut.
+/// A run that goes ahead of a lead, under the lead's rule. The scout's run isn't cut.
 #[derive(Drop)]
 pub struct Scout<'a> {
     pub(crate) machine: Machine<'a>,
-    /// How many steps its whole run takes.
+    /// How many steps the scout's whole run takes.
     pub(crate) steps: u32,
     /// The greatest number of steps that a run may take.
     pub(crate) budget: u32,
@@ -47,7 +48,7 @@ pub struct Scout<'a> {
 }
 
 impl<'a> Scout<'a> {
-    /// A scout that is still where the lead is. Its whole run takes `steps` steps.
+    /// A scout that is still where the lead is. The scout's whole run takes `steps` steps.
     pub fn beside(lead: &Machine<'a>, steps: u32, budget: u32) -> Result<Scout<'a>, NoMemory>
         ensures machine { IfOk result (λ scout. scout.machine ≡ lead.now) }
         ensures steps { IfOk result (λ scout. scout.steps ≡ steps) }
@@ -61,8 +62,8 @@ impl<'a> Scout<'a> {
         })
     }
 
-    /// Takes turns until at least `attempts` attempts are made and the next turn asks for an attempt, or to the end of the run. A run takes
-    /// at most two turns more than its budget has steps: the first turn counts no step, and a last one may cut the run.
+    /// Takes the scout's turns until at least `attempts` attempts are made and the next turn asks for an attempt, or until the run ends. A
+    /// run takes at most two turns more than its budget has steps: the first turn counts no step, and the last turn may cut the run.
     pub fn go_ahead(&mut self, attempts: u32) -> Result<(), NoMemory>
         ensures same { IsSameRun self.old.machine self.new.machine }
         ensures steps { self.new.steps ≡ self.old.steps }
@@ -79,8 +80,9 @@ impl<'a> Scout<'a> {
         Ok(())
     }
 
-    /// Whether a fork, under the failure that is tried as `number`, has come to the same state as the scout, except for allocation numbers,
-    /// and neither run's rule makes any later attempt fail. Both runs must be about to make an attempt.
+    /// Whether a fork has come to the same state as the scout, except for allocation numbers. The fork goes along the run under the failure
+    /// that is tried as `number`. The result is `true` only if both runs are about to make an attempt, and both are past the last attempt
+    /// that their own rules make fail.
     pub fn is_met_by(&self, fork: &Machine, failures: Failures, number: u32) -> bool
         requires script { self.now.machine.script ≡ fork.now.script }
         ensures { result ≡ true → HasMet failures number fork.now self.now.machine }
@@ -113,8 +115,8 @@ impl<'a> Scout<'a> {
         Some(Meeting::Alike)
     }
 
-    /// Goes ahead as far as the pace says, and then takes a fork's turns until the fork meets the scout, has passed the scout, or is at its
-    /// end.
+    /// The scout goes ahead as far as its pace says. Then the fork takes turns until it meets the scout, has passed the scout, or is at its
+    /// end. Returns where the fork is then.
     fn go_and_follow(
         &mut self,
         fork: &mut Machine,
@@ -134,8 +136,8 @@ impl<'a> Scout<'a> {
         follow(fork, self, failures, number)
     }
 
-    /// Takes a fork's turns until the fork meets the scout; `false` if it doesn't soon. The scout goes ahead first, and further ahead each
-    /// time the fork has passed it.
+    /// Steps the fork until it meets the scout, and returns whether they met. They don't meet if the fork comes to its end, or if it has
+    /// passed the scout too often. The scout goes ahead first, and goes further ahead each time that the fork has passed it.
     fn go_to_meet(
         &mut self,
         fork: &mut Machine,
@@ -164,7 +166,7 @@ impl<'a> Scout<'a> {
         Ok(false)
     }
 
-    /// The same, except that the pace lets some forks pass without being compared: these don't meet the scout.
+    /// Does what `go_to_meet` does, unless the pace lets this fork pass without being compared. Returns `false` for a fork that passes.
     pub fn meet(
         &mut self,
         fork: &mut Machine,
@@ -188,8 +190,8 @@ impl<'a> Scout<'a> {
     }
 }
 
-/// The last attempt that fails under the failure that is tried as `n`; `None` for rates, and if all attempts fail from one on: then there
-/// is always a later attempt that fails.
+/// The last attempt that fails under the failure that is tried as `n`. The result is `None` for rates, and for failures that make all
+/// attempts from some attempt on fail, because these failures have no last attempt.
 fn last_failing(failures: Failures, n: u32) -> Option<u32>
     ensures { result ≡ last_failing failures n }
 {
@@ -236,8 +238,8 @@ fn follow(
     Ok(Place::AtTheEnd)
 }
 
-/// A scout of the lead along the run without failure, which takes `steps` steps. `None` if the steps aren't known, and under failures that
-/// always make a later attempt fail.
+/// A scout that starts where the lead is, and goes along the run without failure. This run takes `steps` steps. The result is `None` if
+/// `steps` is `None`, or if failures of this kind have no last attempt that fails.
 pub fn scout_beside<'a>(
     lead: &Machine<'a>,
     failures: Failures,

@@ -1,11 +1,11 @@
-//! What a sweep over sets finds, and why it has no answer.
+//! What a sweep over sets finds, and why a sweep over sets may have no answer.
 
 use wb_basics::memory::NoMemory;
 use wb_heap_model::heap::Numbers;
 use wb_machine::RunFault;
 use wb_meaning::run::{RunResult, Why};
 
-/// The least set of attempts whose run is bad, and that run.
+/// The least set of attempts whose run is bad, together with this run.
 #[derive(Debug, Drop)]
 pub struct FoundSet {
     /// The numbers of the attempts that fail, in ascending order; empty for the run without failure.
@@ -23,7 +23,7 @@ pub struct SetSweep {
 /// Why a sweep over sets has no answer.
 #[derive(Debug, Drop)]
 pub enum SetFault {
-    /// A minimum length or a growth step that no heap may have.
+    /// The minimum length or the growth step is one that no heap may have.
     BadShape,
     /// The run in which these attempts fail was cut, and no lesser set's run was bad or cut.
     Cut { numbers: Numbers, why: Why },

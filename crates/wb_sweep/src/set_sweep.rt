@@ -1,5 +1,5 @@
-//! A sweep over sets of attempts that fail together: first the empty set and the sets of one attempt, then those of two, and so on, up to a
-//! greatest size.
+//! A sweep over sets of attempts that fail together, up to a greatest size. The empty set and the sets of one attempt are tried first, then
+//! the sets of two attempts, and so on.
 
 ghost use Rattle.std.specs.Prelude.{◌≡◌, ℕ, ◌+◌, ◌≤◌, ◌↔◌, List, false, IfOk, IsTrue};
 ghost use Rattle.wb_tree.specs.Sound.{is_script};
@@ -25,7 +25,7 @@ use wb_runs::part::Part;
 use wb_runs::progress::{Aim, Progress};
 use wb_tree::script::Script;
 
-/// The numbers of the attempts that fail under a single failure or a pair; empty for number 0.
+/// The numbers of the attempts that fail, if the failure is a number or a pair; empty for number 0, and for any other failure.
 fn set_of(alloc: Global, at: Failing) -> Result<Numbers, NoMemory>
     ensures { IfOk result (λ numbers. numbers ≡ set_of at) }
 {
@@ -41,7 +41,7 @@ fn set_of(alloc: Global, at: Failing) -> Result<Numbers, NoMemory>
     Ok(numbers)
 }
 
-/// The set of what was found among single numbers, with its run.
+/// The attempts that fail under what was found among single numbers, as a set, together with the run that was found.
 fn as_set(alloc: Global, found: Found) -> Result<FoundSet, NoMemory>
     ensures { IfOk result (λ set.
         (set.numbers ≡ set_of found.at) × (set.result ≡ found.result)) }
@@ -52,7 +52,7 @@ fn as_set(alloc: Global, found: Found) -> Result<FoundSet, NoMemory>
     })
 }
 
-/// The fault of a sweep over single numbers, as one of a sweep over sets.
+/// The fault of a sweep over single numbers, as a fault of a sweep over sets.
 fn as_set_fault(alloc: Global, fault: SweepFault) -> SetFault
     ensures cut { (numbers : List ℕ) (why : Why) → result ≡ SetFault.Cut numbers why →
         (at : Failing) × (fault ≡ SweepFault.Cut at why) × (numbers ≡ set_of at) }
@@ -68,7 +68,7 @@ fn as_set_fault(alloc: Global, fault: SweepFault) -> SetFault
     }
 }
 
-/// The sweep itself. The caller notifies `progress` of its beginning and its end.
+/// Does the work of `sweep_sets`. The caller notifies `progress` of the sweep's beginning and end.
 pub(crate) fn find_least_set<P: Progress>(
     alloc: Global,
     script: &Script,
@@ -123,20 +123,21 @@ pub(crate) fn find_least_set<P: Progress>(
     }
 }
 
-/// The least set of at most `most` attempts that makes the run bad if they fail together, of the sets whose least number is in the part and
-/// no greater than the last attempt of the run without failure. A set comes before all sets with more numbers. Of two sets with equally
-/// many numbers, the one with the lesser number where they first differ comes first. The empty set is number 0, the run without failure.
+/// Finds the least set, of at most `most` attempts, whose attempts make the run bad if all of them fail. The set's least number must be in
+/// the part and no greater than the last attempt of the run without failure. A set comes before all sets with more numbers. Of two sets
+/// with equally many numbers, the set with the lesser number at their first difference comes first. The empty set is number 0, the run
+/// without failure.
 ///
-/// Single numbers are tried as `sweep_part` tries them. If the run of each is fine, two attempts fail together, then three, and so on. Runs
-/// that come to the same state before an attempt, except for allocation numbers, go on as one: each such state is kept and followed once.
-/// If there are more states than the sets are worth, the sets that the states haven't answered are tried one by one. The run of each set
-/// goes on from the run in which all but the set's last number fail, and the last number is at most that run's last attempt: a set with a
-/// later number has the run of a smaller set. `Cut` names the least set whose run is cut, if no lesser set's run is bad. `BadShape` is
-/// returned exactly if the shape is none that a heap may have. Not counting the runs of states, at most three runs more than a set has
-/// numbers are under way at once.
+/// Single numbers are tried as `sweep_part` tries them. If all their runs are fine, sets of two attempts are tried, then sets of three, and
+/// so on. Runs that come to the same state before an attempt, except for allocation numbers, go on as one run: each such state is kept and
+/// followed once. If there are more states than the sets are worth, the sets that the states haven't answered are tried one by one. The run
+/// of a set that is tried in this way goes on from the run in which all attempts of the set but the last fail. The set's last number is at
+/// most the last attempt of that run. A set with a greater last number has the same run as a smaller set. `Cut` names the least set whose
+/// run is cut, if no lesser set's run is bad. `BadShape` is returned exactly if no heap may have the shape. Besides the runs of states, at
+/// most as many runs are under way at once as a set has numbers, plus three.
 ///
-/// `progress` is notified that the sweep begins, of each failure and set that is tried before its run, of each state that is met, and that
-/// the sweep is over.
+/// `progress` is notified when the sweep begins and when it is over. `progress` is also notified of each state that is met, and of each
+/// failure or set that is tried, before its run.
 pub fn sweep_sets<P: Progress>(
     alloc: Global,
     script: &Script,

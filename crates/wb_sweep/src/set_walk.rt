@@ -1,5 +1,5 @@
-//! A walk over the sets of a part, in their order: first those of one attempt more than the sets whose runs are known to be fine, and so on
-//! up to a greatest size. The run without failure is followed once for each size.
+//! A walk over the sets of a part, in their order, up to a greatest size. The walk begins with sets of one attempt more than the sets whose
+//! runs are known to be fine. The run without failure is followed once for each size.
 
 ghost use Rattle.std.specs.Prelude.{◌≡◌, ◌≢◌, ℕ, ◌+◌, ◌^◌, ◌<◌, ◌≤◌, List, [], None, false, IfOk, IfSome, IsTrue};
 ghost use Rattle.wb_tree.specs.Sound.{is_script};
@@ -20,9 +20,9 @@ use wb_runs::part::Part;
 use wb_runs::progress::Progress;
 use wb_tree::script::Script;
 
-/// The least set of `fewer + 1` numbers whose run is bad, of the sets of a part that are tried; `None` if the run of each is fine. The runs
-/// of the sets of at most `fewer` numbers are known to be fine. The lead is at the start of the run without failure, which makes `last`
-/// attempts.
+/// Finds the least set whose run is bad, of the tried sets of a part that have `fewer + 1` numbers. Returns `None` if the run of each of
+/// these sets is fine. The runs of the sets of at most `fewer` numbers are known to be fine. The lead is at the start of the run without
+/// failure. This run makes `last` attempts.
 fn find_among_sets<P: Progress>(
     lead: &mut Machine,
     none: &Numbers,
@@ -64,7 +64,7 @@ fn find_among_sets<P: Progress>(
     Ok(None)
 }
 
-/// The same, with a lead of its own.
+/// Does what `find_among_sets` does, but makes the lead itself.
 fn find_of_many<P: Progress>(
     alloc: Global,
     script: &Script,
@@ -98,8 +98,8 @@ fn find_of_many<P: Progress>(
     find_among_sets(&mut lead, &none, part, last, fewer, progress)
 }
 
-/// The least set of at most `most` numbers whose run is bad, of the sets of a part that are tried; `None` if the run of each is fine. The
-/// runs of the sets of at most `fine` numbers are known to be fine. The run without failure makes `last` attempts.
+/// Finds the least set whose run is bad, of the tried sets of a part that have at most `most` numbers. Returns `None` if the run of each of
+/// these sets is fine. The runs of the sets of at most `fine` numbers are known to be fine. The run without failure makes `last` attempts.
 pub(crate) fn walk_sets<P: Progress>(
     alloc: Global,
     script: &Script,

@@ -1,5 +1,5 @@
-//! A search over sets of attempts that fail together, once the run of each smaller set is fine: a walk along each run in which all attempts
-//! of a set but the last fail. Which other sets are to be tried is not decided here.
+//! A search over sets of attempts that fail together. The runs of all smaller sets are known to be fine. The search walks along each run in
+//! which all attempts of a set but the last fail. The callers choose the size of the sets and their least number.
 
 ghost use Rattle.std.specs.Prelude.{◌≡◌, ◌≢◌, ℕ, ◌+◌, ◌<◌, ◌≤◌, List, [], ◌∷◌, ◌++◌, None, false, length, true, IfErr, IfOk, IfSome};
 ghost use Rattle.wb_meaning.specs.Run.{is_bad};
@@ -37,7 +37,7 @@ fn rule_for(numbers: &Numbers) -> Result<Rule, NoMemory>
     Ok(Rule::Set(numbers.try_copy()?))
 }
 
-/// Judges the run under a set: returns the set and the run if the run is bad, `Cut` if it is cut, and `None` if it is fine.
+/// Judges the run under a set. Returns the set with its run if the run is bad, `Cut` if the run is cut, and `None` if the run is fine.
 pub(crate) fn judge_set(
     numbers: Numbers,
     run_result: RunResult,
@@ -59,8 +59,9 @@ pub(crate) fn judge_set(
     }))
 }
 
-/// Judges the run in which the attempts of `set` fail, and so does `number`, the attempt that the lead makes next: returns it if it is bad,
-/// `None` if it is fine. A copy of the lead makes this run; it takes the spare memory, and leaves its own.
+/// Judges the run in which the attempts of `set` and the attempt `number` fail. Returns the run if it is bad, and `None` if it is fine. The
+/// lead is a run in which the attempts of `set` fail, and `number` is its next attempt. A copy of the lead makes the judged run. The copy
+/// takes the spare memory, and leaves its own memory as spare.
 fn try_last<P: Progress>(
     lead: &Machine,
     set: &Numbers,
@@ -89,8 +90,9 @@ fn try_last<P: Progress>(
     judge_set(numbers, run_result)
 }
 
-/// How many attempts the run makes in which the attempts of `set` fail, and so does `number`, the attempt that the lead makes next.
-/// `numbers` is the set with that number. A copy of the lead makes this run; it takes the spare memory, and leaves its own.
+/// How many attempts are made in the run in which the attempts of `numbers` fail. `numbers` is `set` with `number` added. The lead is a run
+/// in which the attempts of `set` fail, and `number` is its next attempt. A copy of the lead makes the run under `numbers`. The copy takes
+/// the spare memory, and leaves its own memory as spare.
 fn last_under(
     lead: &Machine,
     set: &Numbers,
@@ -112,7 +114,8 @@ fn last_under(
     Ok(attempts_in(run_result.trace.as_slice()))
 }
 
-/// A copy of the lead that goes along the same run as in `last_under`, and has made the attempt `number`.
+/// Copies the lead, and lets the copy make the attempt `number`. The copy goes along the run in which the attempts of `numbers` fail.
+/// `numbers` is `set` with `number` added, and `number` is the lead's next attempt.
 fn fork_to<'a>(
     lead: &Machine<'a>,
     set: &Numbers,
@@ -133,9 +136,10 @@ fn fork_to<'a>(
     Ok(fork)
 }
 
-/// The least set whose run is bad, of the sets that begin with `set` and `number`, the attempt that the lead makes next, and have `more`
-/// numbers from `number` on; `None` if the run of each is fine. The runs of such sets with fewer numbers are known to be fine. Copies of
-/// the lead that go on to their end take the spare memory, and leave their own.
+/// Finds the least set whose run is bad, of the sets that begin with `set` and `number` and have `more` numbers from `number` on. Returns
+/// `None` if the run of each of these sets is fine. The runs of the sets that begin in the same way but have fewer numbers are known to be
+/// fine. The lead is a run in which the attempts of `set` fail, and `number` is its next attempt. Each copy of the lead that goes on to its
+/// end takes the spare memory, and leaves its own memory as spare.
 #[cycle(sets)]
 fn find_with<P: Progress>(
     lead: &Machine,
@@ -171,9 +175,9 @@ fn find_with<P: Progress>(
     find_along(&mut fork, &numbers, number, last, more - 1, spare, progress)
 }
 
-/// The least set whose run is bad, of the sets that begin with `set` and have `more` further numbers, each greater than `past`; `None` if
-/// the run of each is fine. The runs of such sets with fewer numbers are known to be fine. The lead goes along the run in which the
-/// attempts of `set` fail, which makes `last` attempts.
+/// Finds the least set whose run is bad, of the sets that begin with `set` and have `more` further numbers, each greater than `past`.
+/// Returns `None` if the run of each of these sets is fine. The runs of the sets that begin in the same way but have fewer numbers are
+/// known to be fine. The lead goes along the run in which the attempts of `set` fail. This run makes `last` attempts.
 #[cycle(sets)]
 fn find_along<P: Progress>(
     lead: &mut Machine,
@@ -215,8 +219,9 @@ fn find_along<P: Progress>(
     Ok(None)
 }
 
-/// The same, of the sets whose next number after `set` is `number`, the attempt that the lead makes next; also `None` if the lead's next
-/// turn makes no attempt, and if `number` isn't greater than `past`.
+/// Finds the least set whose run is bad, of the sets that `find_along` tries and whose next number after `set` is `number`. Returns `None`
+/// if the run of each of these sets is fine, if the lead's next turn makes no attempt, or if `number` isn't greater than `past`. The lead
+/// has made all attempts before `number`.
 #[cycle(sets)]
 pub(crate) fn find_next<P: Progress>(
     lead: &Machine,

@@ -1,4 +1,5 @@
-//! A sweep over failures: one run without failure, and a run under each failure, which parts from it at the first attempt that is to fail.
+//! A sweep over failures: one run without failure, and a run under each failure. Each run under a failure parts from the run without
+//! failure at the first attempt that is to fail.
 
 ghost use Rattle.std.specs.Prelude.{◌≡◌, ◌≢◌, ◌+◌, ◌≤◌, ◌↔◌, None, false, true, IfErr, IfOk, IfSome};
 ghost use Rattle.std.specs.Prelude.{IsTrue};
@@ -21,14 +22,15 @@ use crate::walk::{attempts_in, find_among, judge_run};
 use std::alloc::Global;
 use wb_basics::limits::LARGEST_BUDGET;
 use wb_heap_model::heap::Shape;
-use wb_machine::{Machine, run};
+use wb_machine::{Machine, run_reporting};
 use wb_meaning::run::{Outcome, RunResult};
 use wb_runs::failures::{Failing, Failures};
 use wb_runs::part::Part;
 use wb_runs::progress::{Aim, Progress};
 use wb_tree::script::Script;
 
-/// Judges the run without failure: returns it if it is bad and the part has number 0, `Cut` if it is cut, and otherwise `None`.
+/// Judges the run without failure. Returns `Cut` if the run is cut, and the run if it is bad and the part has number 0. Returns `None` if
+/// the run is fine, or if it is bad but the part doesn't have number 0.
 fn judge_first(part: Part, at: Failing, first: RunResult) -> Result<Option<Found>, SweepFault>
     ensures fine { IfOk result (λ found. found ≡ None → part.from ≡ 0 → is_fine first ≡ true) }
     ensures bad { IfOk result (λ found. IfSome found (λ bad.
@@ -56,9 +58,9 @@ fn steps_if_fine(run_result: &RunResult) -> Option<u32>
     is_fine.then_some(run_result.steps)
 }
 
-/// Tries the failures of a part, number by number; for pairs, the single failures. Returns the least whose run is bad; `None` if the run of
-/// each is fine. The lead is at the start of the run without failure. That run isn't cut, is fine if the part has number 0, and makes
-/// `last` attempts.
+/// Tries the failures of a part, number by number; if they are pairs, tries the single failures instead. Returns the least failure whose
+/// run is bad, or `None` if the run of each tried failure is fine. The lead is at the start of the run without failure. The run without
+/// failure isn't cut, is fine if the part has number 0, and makes `last` attempts.
 fn try_in_order<P: Progress>(
     lead: &mut Machine,
     failures: Failures,
@@ -96,7 +98,7 @@ fn try_in_order<P: Progress>(
     )
 }
 
-/// The same, with a lead of its own. If `steps` is given, the run without failure is fine and takes so many steps.
+/// Does what `try_in_order` does, but makes the lead itself. If `steps` is given, the run without failure is fine and takes `steps` steps.
 fn try_numbers<P: Progress>(
     alloc: Global,
     script: &Script,
@@ -130,8 +132,9 @@ fn try_numbers<P: Progress>(
     try_in_order(&mut lead, failures, part, last, &mut scout, progress)
 }
 
-/// The least failure of a part whose run is bad; `None` if there is none. The run without failure isn't cut, is fine if the part has number
-/// 0, and makes `last` attempts. If `steps` is given, that run is fine and takes so many steps.
+/// Finds the least failure whose run is bad, of the failures of a part; returns `None` if there is no such failure. The run without failure
+/// isn't cut, is fine if the part has number 0, and makes `last` attempts. If `steps` is given, the run without failure is fine and takes
+/// `steps` steps.
 pub(crate) fn find_later<P: Progress>(
     alloc: Global,
     script: &Script,
@@ -173,7 +176,7 @@ pub(crate) fn find_later<P: Progress>(
     }
 }
 
-/// The sweep itself. Its callers notify `progress` of its beginning and its end.
+/// Does the work of `sweep` and `sweep_part`, which notify `progress` of the sweep's beginning and end themselves.
 pub(crate) fn find_least<P: Progress>(
     alloc: Global,
     script: &Script,
@@ -195,7 +198,7 @@ pub(crate) fn find_least<P: Progress>(
     ensures shape { (result ≡ Err SweepFault.BadShape) ↔ (is_shape shape ≡ false) }
 {
     let none = failures.at(0);
-    let first = run(alloc, script, none.rule(), budget, shape)?;
+    let first = run_reporting(alloc, script, none.rule(), budget, shape, progress)?;
     let attempts = attempts_in(first.trace.as_slice());
     let steps = steps_if_fine(&first);
     if let Some(found) = judge_first(part, none, first)? {
@@ -213,19 +216,20 @@ pub(crate) fn find_least<P: Progress>(
     }
 }
 
-/// The least failure whose run is bad: the number of the attempt that fails, alone or with all after it, the rate at which attempts fail,
-/// or the pair of attempts that fail. Number 0 and rate 0 stand for the run without failure.
+/// Finds the least failure whose run is bad. A failure is one attempt that fails, an attempt from which on all attempts fail, a rate at
+/// which attempts fail, or a pair of attempts that fail. Number 0 and rate 0 stand for the run without failure.
 ///
-/// Runs the script without failure, and then under the failures from 1 to the last attempt of that run, up to the first failure whose run
-/// is bad or cut. The answer holds for all failures, also for those past that attempt. The run under a failure goes on from where the run
-/// without failure makes the first attempt that is to fail, until it has come to the same state as the run without failure, except for
-/// allocation numbers, or to its end. At most three runs are under way at once. Pairs are tried once no single number's run is bad or cut,
-/// as `sweep_sets` tries the sets of two attempts: in the order of their first attempts, and pairs with the same first attempt in the order
-/// of their second, which is any attempt that the run with the first failure makes after it. `Cut` names the least failure whose run is
-/// cut, if no lesser failure's run is bad. `BadShape` is returned exactly if the shape is none that a heap may have.
+/// Runs the script without failure. Then runs the script under the failures from 1 to the last attempt of that run. Stops at the first
+/// failure whose run is bad or cut. The answer holds for all failures, even for failures past that last attempt. The run under a failure
+/// goes on from the point at which the run without failure makes the first attempt that is to fail. The run under a failure is followed to
+/// its end, or until it comes to the same state as the run without failure, except for allocation numbers. At most three runs are under way
+/// at once. If the failures are pairs and no single number's run is bad or cut, pairs are tried, as `sweep_sets` tries the sets of two
+/// attempts. Pairs are in the order of their first attempts, and pairs with the same first attempt are in the order of their second
+/// attempts. The second attempt is any attempt that the run with the first failure makes after the first attempt. `Cut` names the least
+/// failure whose run is cut, if no lesser failure's run is bad. `BadShape` is returned exactly if no heap may have the shape.
 ///
-/// `progress` is notified that the sweep begins, of each failure that is tried before its run, of pairs as by `sweep_sets`, and that the
-/// sweep is over.
+/// `progress` is notified when the sweep begins, before the run under each failure that is tried, and when the sweep is over. For pairs,
+/// `progress` is notified as by `sweep_sets`.
 pub fn sweep<P: Progress>(
     alloc: Global,
     script: &Script,
@@ -252,12 +256,12 @@ pub fn sweep<P: Progress>(
     swept
 }
 
-/// The same for a part: the least failure whose run is bad, of the failures whose number (of pairs, the first number) is in the part and no
-/// greater than the last attempt of the run without failure.
+/// Finds the least failure whose run is bad, of the failures of a part. Only failures are tried whose number is in the part and no greater
+/// than the last attempt of the run without failure. The number of a pair is its first attempt.
 ///
-/// The run without failure is made whatever the part is, and its attempts are counted. That run can be found as bad only if the part has
-/// number 0; but if it is cut, `Cut` is the answer for every part. The lead goes on to the first number of the part before any failure is
-/// tried.
+/// The run without failure is made whatever the part is, and its attempts are counted. The run without failure can be found as bad only if
+/// the part has number 0. But if the run without failure is cut, `Cut` is the answer for every part. Before any failure is tried, the
+/// script is run without failure once more, up to the first number of the part.
 pub fn sweep_part<P: Progress>(
     alloc: Global,
     script: &Script,

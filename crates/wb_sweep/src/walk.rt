@@ -1,4 +1,5 @@
-//! A walk along a run, from which copies part under failures: each copy before the attempt that is the first to fail under its failure.
+//! A walk along a run from which copies part. Each copy goes on under a failure, and parts from the run before the first attempt that this
+//! failure makes fail.
 
 ghost use Rattle.std.specs.Prelude.{◌≡◌, ◌≢◌, ◌⊎◌, ◌+◌, ◌≤◌, None, true, false, length, IfOk, IfErr, IfSome};
 ghost use Rattle.wb_runs.specs.Sweeps.{failing_at, is_cut_outcome, is_fine, rule_of};
@@ -20,8 +21,8 @@ use wb_meaning::run::{Outcome, RunResult, Why};
 use wb_runs::failures::{Failing, Failures};
 use wb_runs::progress::Progress;
 
-/// Judges the run under a failure: returns the failure and the run if the run is bad, `Cut` if it is cut, and `None` if it is fine. A run
-/// that only leaves is fine, and so is a run that gets no cleanup stack.
+/// Judges the run under a failure. Returns the failure and the run if the run is bad, `Cut` if the run is cut, and `None` if the run is
+/// fine. A run that only leaves is fine, and so is a run that gets no cleanup stack.
 pub(crate) fn judge_run(at: Failing, run_result: RunResult) -> Result<Option<Found>, SweepFault>
     ensures fine { IfOk result (λ found. found ≡ None → is_fine run_result ≡ true) }
     ensures bad { IfOk result (λ found. IfSome found (IsBadAt at run_result)) }
@@ -41,8 +42,8 @@ pub(crate) fn judge_run(at: Failing, run_result: RunResult) -> Result<Option<Fou
     }))
 }
 
-/// The same by what is known of a fork beside a run that is fine. If the fork met the scout, its run is fine, too, unless the budget cuts
-/// it.
+/// Judges the run of a fork as `judge_run` does. The fork is a copy of a run that is fine. So if the fork met the scout, the fork's run is
+/// fine too, unless the budget cuts it.
 fn judge_fork(at: Failing, forked: Forked) -> Result<Option<Found>, SweepFault>
     ensures fine { IfOk result (λ found. found ≡ None → (run_result : RunResult) →
         FineSays forked run_result → is_fine run_result ≡ true) }
@@ -73,9 +74,9 @@ pub(crate) fn attempts_in(trace: &[Attempt]) -> u32
     }
 }
 
-/// Judges the run in which `number`, the attempt that the lead makes next, is the first to fail: returns it if it is bad; `None` if it is
-/// fine, if the lead's next turn makes no attempt, and if `number` is less than `from`. A fork follows that run until it meets the scout,
-/// if there is one; the fork takes the spare memory, and leaves its own.
+/// Judges the run in which `number`, the attempt that the lead makes next, is the first attempt to fail. Returns the run if it is bad.
+/// Returns `None` if the run is fine, if the lead's next turn makes no attempt, or if `number` is less than `from`. A fork follows the run
+/// until it meets the scout, if there is a scout. The fork takes the spare memory, and leaves its own memory as spare.
 fn try_next<P: Progress>(
     lead: &Machine,
     failures: Failures,
@@ -112,10 +113,10 @@ fn try_next<P: Progress>(
     judge_fork(failing, forked)
 }
 
-/// The least failure whose run is bad, of the failures that are tried as the numbers from `from` to `last`, which is no greater than the
-/// last attempt of the run without failure; `None` if the run of each is fine. The lead is the run without failure. The runs under the
-/// numbers from `from` to the last attempt that the lead has made are known to be fine, and numbers less than `from` aren't tried. Each
-/// fork is followed until it meets the scout, if there is one, and takes the memory of the fork before it.
+/// Finds the least failure whose run is bad, of the failures that are tried as the numbers from `from` to `last`. Returns `None` if the run
+/// of each of these failures is fine. `last` is no greater than the last attempt of the run without failure, and the lead is this run. The
+/// runs under the numbers from `from` to the last attempt that the lead has made are known to be fine, and numbers less than `from` aren't
+/// tried. Each fork is followed until it meets the scout, if there is a scout, and takes the memory of the fork before it.
 pub(crate) fn find_among<P: Progress>(
     lead: &mut Machine,
     failures: Failures,

@@ -9,9 +9,9 @@ use arrayvec::ArrayVec;
 use std::marker::Model;
 use wb_heap_model::heap::Panic;
 
-/// A text with a stated maximum length, which is at most 256 units. It allocates no memory.
+/// A text with a stated maximum length, which is at most 256 units. The text allocates no memory.
 ///
-/// A refused call leaves the text as it was. Source: Symbian OS v9 SDK reference, 16-bit descriptors.
+/// A call that returns a panic leaves the text as it was. Source: Symbian OS v9 SDK reference, 16-bit descriptors.
 #[derive(Debug, Drop)]
 pub struct Buf {
     max: u32,
@@ -72,9 +72,9 @@ impl Buf {
         self.units[at as usize]
     }
 
-    /// Replaces the text by another one.
+    /// Replaces the text by the text of `source`.
     ///
-    /// `Panic::TOO_LONG` if that text is longer than the maximum length.
+    /// Returns `Panic::TOO_LONG` if the source's text is longer than the maximum length.
     pub fn copy<U: Units>(&mut self, source: &U) -> Result<(), Panic>
         requires { U.can_read source.now }
         ensures text { self.new ≡ edited self.old (at_most self.old.max (U.units source.now)) }
@@ -88,9 +88,9 @@ impl Buf {
         Ok(())
     }
 
-    /// Appends a text.
+    /// Appends the text of `source`.
     ///
-    /// `Panic::TOO_LONG` if the whole would be longer than the maximum length.
+    /// Returns `Panic::TOO_LONG` if the resulting text would be longer than the maximum length.
     pub fn append<U: Units>(&mut self, source: &U) -> Result<(), Panic>
         requires { U.can_read source.now }
         ensures text { self.new
@@ -105,10 +105,10 @@ impl Buf {
         Ok(())
     }
 
-    /// Inserts a text in front of the unit at a position, or at the end if the position is the text's length.
+    /// Inserts the text of `source` before the unit at a position, or at the buffer's end if the position is the buffer's length.
     ///
-    /// `Panic::POSITION_OUT_OF_BOUNDS` if the position is past the end, then `Panic::TOO_LONG` if the whole would be longer than the
-    /// maximum length.
+    /// Returns `Panic::POSITION_OUT_OF_BOUNDS` if the position is past the end; otherwise `Panic::TOO_LONG` if the resulting text would be
+    /// longer than the maximum length.
     pub fn insert<U: Units>(&mut self, position: u32, source: &U) -> Result<(), Panic>
         requires { U.can_read source.now }
         ensures text { self.new ≡ edited self.old
@@ -127,9 +127,10 @@ impl Buf {
         Ok(())
     }
 
-    /// Removes `count` units from a position on, or all units from there on if they are fewer.
+    /// Removes `count` units from a position on. If the text has fewer than `count` units from the position on, the call removes all of
+    /// these units.
     ///
-    /// `Panic::POSITION_OUT_OF_BOUNDS` if the position is past the end.
+    /// Returns `Panic::POSITION_OUT_OF_BOUNDS` if the position is past the end.
     pub fn delete(&mut self, position: u32, count: u32) -> Result<(), Panic>
         ensures text { self.new ≡ edited self.old (delete_text self.old.units position count) }
         ensures answer { result ≡ answer_of (delete_text self.old.units position count) }
@@ -141,9 +142,9 @@ impl Buf {
         Ok(())
     }
 
-    /// Gives the text another length: drops the units past it, or appends zeros up to it.
+    /// Sets the length of the text: drops the units past the new length, or appends zeros up to the new length.
     ///
-    /// `Panic::TOO_LONG` if the new length is above the maximum length.
+    /// Returns `Panic::TOO_LONG` if the new length is above the maximum length.
     pub fn set_length(&mut self, length: u32) -> Result<(), Panic>
         ensures text { self.new
             ≡ edited self.old (set_length_text self.old.max self.old.units length) }
@@ -158,7 +159,7 @@ impl Buf {
     }
 }
 
-/// A buffer as a text that can be read.
+/// Makes a buffer usable as a text that can be read.
 impl Units for Buf {
     ghost can_read = { λ _. Unit {0} };
 
@@ -177,7 +178,7 @@ impl Units for Buf {
     }
 }
 
-/// Inserts the units of a text in front of the unit at a position.
+/// Inserts the units of a text before the unit at a position.
 fn put_in<U: Units>(units: &mut ArrayVec<u16, 256>, at: usize, source: &U)
     requires can { U.can_read source.now }
     requires within { at ≤ length units.old.items }
@@ -203,7 +204,7 @@ fn take_out(units: &mut ArrayVec<u16, 256>, at: usize, count: usize)
     units.truncate(len - count);
 }
 
-/// Appends zeros up to a length.
+/// Appends zeros until there are `len` units.
 fn fill_up(units: &mut ArrayVec<u16, 256>, len: usize)
     requires from { length units.old.items ≤ len }
     requires most { len ≤ 256 }

@@ -1,7 +1,6 @@
-//! 16-bit descriptors that own no memory: buffers of a stated maximum, and views.
+//! 16-bit descriptors that own no memory: buffers with a stated maximum length, and views.
 //!
-//! Positions, counts and lengths are in units of 16 bits. Source of the rules of edits: Symbian OS v9 SDK
-//! reference, 16-bit descriptors.
+//! Positions, counts and lengths are in units of 16 bits. Source of the rules for edits: Symbian OS v9 SDK reference, 16-bit descriptors.
 #![tactic(auto)]
 
 pub mod buf;

@@ -35,7 +35,7 @@ pub trait Units {
         ensures are_units { AreUnits to.old.items → AreUnits to.new.items };
 }
 
-/// A literal as a text: each byte is a unit.
+/// Makes a literal usable as a text that can be read: each byte is a unit.
 impl Units for Chars {
     ghost can_read = { λ bytes. length bytes < 2 ^ 32 };
 
@@ -66,7 +66,7 @@ pub fn append_units(to: &mut ArrayVec<u16, 256>, units: &[u16])
     }
 }
 
-/// Appends bytes, each as a unit.
+/// Appends bytes; each byte becomes a unit.
 pub fn append_bytes(to: &mut ArrayVec<u16, 256>, bytes: &[u8])
     requires { length to.old.items + length bytes.now ≤ 256 }
     ensures items { to.new.items ≡ to.old.items ++ bytes.now }

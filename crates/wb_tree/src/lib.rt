@@ -1,5 +1,5 @@
-//! The tree of a script: its types, which of its bodies cannot leave, what makes it a sound one, and what the first line of each statement
-//! has for a kind and for operands.
+//! The tree of a script: its types, which bodies cannot leave, what makes a tree sound, and which line kind and operands the first line of
+//! each statement has.
 #![tactic(auto)]
 
 pub mod script;

@@ -14,8 +14,8 @@ pub enum Holder {
 #[derive(Clone, Copy)]
 pub enum Pointer {
     Held(Holder),
-    /// A field of an object: what holds the pointer to the object, the index of the class which that holder is declared with, and the index
-    /// of the field in this class.
+    /// A field of an object. The values are the holder of the pointer to the object, the index of the holder's declared class, and the
+    /// index of the field in this class.
     Field(Holder, u16, u8),
 }
 
@@ -33,7 +33,7 @@ pub enum Writable {
     InCell(Pointer),
 }
 
-/// A text that can be read: one that can be changed, or a local view or a literal by its index.
+/// A text that can be read: a text that can be changed, a local view by its index, or a literal by its index.
 #[derive(Clone, Copy)]
 pub enum Readable {
     Of(Writable),
@@ -72,7 +72,7 @@ pub struct StatementAt {
     pub statement: Statement,
 }
 
-/// A statement, with the statements inside it. Locals are named by their index.
+/// A statement, including the statements inside it. A statement names each local by its index.
 #[cycle(statements)]
 #[derive(Drop)]
 pub enum Statement {
@@ -133,21 +133,21 @@ pub enum Statement {
     Trap(u8, Items<StatementAt>),
 }
 
-/// What a local holds, and what is in it at first.
+/// What a local holds, and its initial value.
 #[derive(Clone, Copy)]
 pub enum Local {
-    /// A pointer, null at first; with the index of its class if it is declared with one.
+    /// A pointer that is null at first. The value is the index of the pointer's class if the pointer is declared with a class.
     OfPointer(Option<u16>),
     OfNumber,
-    /// A buffer: an empty text with this maximum length, in units.
+    /// A buffer: at first an empty text, with this maximum length in units.
     OfBuffer(u16),
     OfView,
 }
 
-/// What a body declares, and what it does.
+/// The locals that a body declares, and its statements.
 #[derive(Drop)]
 pub struct Body {
-    /// The locals that the body declares itself. Their indexes follow those of the parameters.
+    /// The locals that the body itself declares. Their indexes come after the indexes of the parameters.
     pub locals: Items<Local>,
     pub statements: Items<StatementAt>,
 }
@@ -155,7 +155,7 @@ pub struct Body {
 /// A parameter of a procedure.
 #[derive(Clone, Copy)]
 pub enum Parameter {
-    /// A pointer, with the index of its class if it is declared with one.
+    /// A pointer. The value is the index of the pointer's class if the pointer is declared with a class.
     OfPointer(Option<u16>),
     OfNumber,
 }
@@ -168,7 +168,7 @@ pub struct Procedure {
     pub body: Body,
 }
 
-/// An operation. Local 0 is its one parameter, a pointer.
+/// An operation. Its only parameter is a pointer, which is local 0.
 #[derive(Drop)]
 pub struct Operation {
     pub line: u32,
@@ -181,14 +181,13 @@ pub struct Class {
     pub line: u32,
     /// How many extra bytes an object has after its fields.
     pub extra: u32,
-    /// For each field the index of its class, if it is declared with one.
+    /// For each field, the index of the field's class if the field is declared with a class.
     pub fields: Items<Option<u16>>,
     pub construct: Option<Body>,
     pub destroy: Option<Body>,
 }
 
-/// A whole script. Classes, procedures, operations and literals are named by their index, in the order of
-/// the lines.
+/// A whole script. Each class, procedure, operation and literal is named by its index; indexes follow the order of the lines.
 #[derive(Drop)]
 pub struct Script {
     pub classes: Items<Class>,

@@ -1,10 +1,10 @@
-//! What a line of a script says, before its names are looked up and after. The tables of the language are in
-//! `specs/LineKinds.antt` of `wb_language`.
+//! What a line of a script says, both before and after its names are looked up. The tables of the language are in `specs/LineKinds.antt` of
+//! `wb_language`.
 
 use wb_basics::items::Items;
 
-/// The kind of a line. Most kinds have a first word of their own; lines that begin with `field`, `ptr`, `set`, `return` or `if` are told
-/// apart by the words that follow.
+/// The kind of a line. Most kinds have their own first word. If a line begins with `field`, `ptr`, `set`, `return` or `if`, the words after
+/// that word decide its kind.
 #[derive(Clone, Copy)]
 pub enum LineKind {
     Class,
@@ -17,7 +17,7 @@ pub enum LineKind {
     Proc,
     Op,
     Ptr,
-    /// A pointer of a class.
+    /// A pointer that is declared with a class.
     ClassPtr,
     Int,
     Buf,
@@ -86,27 +86,27 @@ pub enum LineKind {
     End,
 }
 
-/// What stands at a position of a line after its first word. For each operand place the tables of the language say which words are
-/// grammatical and which kinds of operands are right.
+/// What a line has at a position after its first word. For each such place, the tables of the language say which words are grammatical and
+/// which kinds of operands are right.
 #[derive(Clone, Copy)]
 pub enum OperandPlace {
     /// A name that the line declares.
     Declared,
-    /// A pointer that is read: its name, or a field.
+    /// A pointer that the line reads: the name of a pointer, or a field.
     Pointer,
-    /// A pointer that the line writes: its name, or a field.
+    /// A pointer that the line writes: the name of a pointer, or a field.
     Written,
-    /// The pointer local to which a call's result goes: its name. A field is grammatical here, but never right.
+    /// The name of the pointer local that receives a call's result. A field is grammatical here, but never right.
     Receiver,
     /// A field that a `set` writes.
     FieldTarget,
-    /// A number, or the name of a local that holds one.
+    /// A number, or the name of a local that holds a number.
     Value,
     /// The name of a local that holds a number.
     Variable,
-    /// What a `set` writes if it isn't a field: the name of a pointer, or of a local that holds a number.
+    /// What a `set` writes if it doesn't write a field: the name of a pointer, or of a local that holds a number.
     Target,
-    /// What such a `set` reads: a number, the name of a pointer or of a local that holds a number, or a field.
+    /// What a `set` that doesn't write a field reads: a number, the name of a pointer or of a local that holds a number, or a field.
     Source,
     /// The greatest length of a text, or the extra bytes of a class: a number from 0 on.
     Size,
@@ -116,7 +116,7 @@ pub enum OperandPlace {
     Readable,
     /// The name of a view.
     ViewName,
-    /// A number, the name of a local that holds one, or a text that can be read.
+    /// What a line prints: a number, the name of a local that holds a number, or a text that can be read.
     Printed,
     /// The name of a class.
     Class,
@@ -126,11 +126,11 @@ pub enum OperandPlace {
     Operation,
     /// A parameter that the line declares, with its kind.
     Parameter,
-    /// The name of the one parameter of an operation, a pointer.
+    /// The name of the only parameter of an operation; this parameter is a pointer.
     ItsPointer,
     /// What a call passes: a number, the name of a pointer or of a local that holds a number, or a field.
     Argument,
-    /// A word of the line's own.
+    /// A keyword that belongs to this kind of line.
     Keyword(Keyword),
 }
 
@@ -143,7 +143,7 @@ pub enum Keyword {
     Less,
 }
 
-/// The kind of an item, which the script declares outside of all bodies.
+/// The kind of an item. Here an item is a class, procedure or operation, which the script declares outside of all bodies.
 #[derive(Clone, Copy)]
 pub enum ItemKind {
     Class,
@@ -162,7 +162,7 @@ pub enum BodyKind {
     Destructor,
 }
 
-/// What a word is to the grammar.
+/// The kind of a word in the grammar.
 #[derive(Clone, Copy)]
 pub enum WordKind {
     /// A name that can be declared.
@@ -178,24 +178,24 @@ pub enum WordKind {
     Literal,
     /// A name that can be declared, a colon, and a kind.
     Parameter,
-    /// A name that can be declared, of the parameter of an operation, which is a pointer.
+    /// A name that can be declared, for the parameter of an operation. This parameter is a pointer.
     NewPointer,
     Keyword(Keyword),
 }
 
-/// What a parameter takes. `N` is the name of a class, or what this name stands for.
+/// What a parameter takes. `N` is the type of a class name, or of what a class name stands for.
 #[derive(Clone, Copy)]
 pub enum ParameterType<N> {
     Pointer,
     Number,
-    /// A pointer of a class.
+    /// A pointer that is declared with a class.
     OfClass(N),
 }
 
-/// What a local holds. `N` is the name of a class.
+/// What a local holds. `N` is the type of a class name.
 #[derive(Clone, Copy)]
 pub enum LocalKind<N> {
-    /// A pointer, with its class if it is declared with one.
+    /// A pointer. The value is the pointer's class if the pointer is declared with a class.
     Pointer(Option<N>),
     Number,
     /// A buffer, which holds a text itself.
@@ -203,28 +203,28 @@ pub enum LocalKind<N> {
     View,
 }
 
-/// A word after a line's first word. `N` is a name or the text of a literal: its bytes, or what these stand for.
+/// A word after a line's first word. `N` is the type of a name or of a literal's text: either the bytes of it, or what the bytes stand for.
 #[derive(Clone, Copy)]
 pub enum Operand<N> {
     Name(N),
-    /// What holds a pointer to an object, and a field of this object.
+    /// A field of an object. The values are the variable that holds the pointer to the object, and the field.
     Field(N, N),
     Number(i32),
-    /// A number in a place where none below 0 is grammatical.
+    /// A number in a place that allows only numbers from 0 on.
     Size(u32),
     /// The text of a literal, without its quotes.
     Literal(N),
     /// A parameter's name, and what the parameter takes.
     Parameter(N, ParameterType<N>),
-    /// A word of the line's own.
+    /// A keyword that belongs to this kind of line.
     Keyword,
 }
 
-/// What a name or a literal stands for. Indexes count from 0: those of locals in their body, those of fields in their class, and those of
-/// classes, of procedures, of operations and of literals in the script.
+/// What a name or a literal stands for. Indexes count from 0. Locals are counted in their body, and fields in their class. Classes,
+/// procedures, operations and literals are each counted in the script.
 #[derive(Clone, Copy)]
 pub enum Referent {
-    /// What the line declares, by its index: the next class, procedure or operation, the next field of a class, or the next local of the
+    /// The index of what the line declares: the next class, procedure or operation, the next field of a class, or the next local of the
     /// body.
     Declared(usize),
     /// A local that holds a pointer.
@@ -235,23 +235,23 @@ pub enum Referent {
     Buffer(usize),
     /// A local that holds a view.
     View(usize),
-    /// `self`, the object whose `construct` or `destroy` the body is.
+    /// `self`, in a `construct` or `destroy` body: the object on which the body runs.
     This,
     Literal(usize),
     Class(usize),
     Procedure(usize),
     Operation(usize),
-    /// A field, by the index of its class and its index in this class.
+    /// A field. The values are the index of its class, and the index of the field in this class.
     Field(usize, usize),
-    /// A field of what isn't declared with a class.
+    /// A field of a variable that isn't declared with a class.
     Classless,
-    /// The next parameter of the procedure or operation that the line begins. The order of the words says which one it is.
+    /// The next parameter of the procedure or operation that the line begins. The order of the words says which parameter this is.
     Parameter,
-    /// Nothing: the name is declared nowhere.
+    /// Nothing, because the script declares no such name.
     Nothing,
 }
 
-/// The kind of an operand, whichever operand of this kind it is.
+/// The kind of an operand.
 #[derive(Clone, Copy)]
 pub enum OperandKind {
     Declared,
@@ -275,21 +275,21 @@ pub enum OperandKind {
     Operation,
     Parameter,
     Keyword,
-    /// A name that is declared nowhere, a field that isn't found, or a parameter whose kind names no class.
+    /// A name that the script doesn't declare, a field that isn't found, or a parameter whose kind names no class.
     Nothing,
 }
 
 /// What a line says.
 #[derive(Drop)]
 pub enum Form<N> {
-    /// Nothing: the line is blank, or a comment.
+    /// The line says nothing: it is blank, or a comment.
     Skip,
     /// Words that fit no line of the language.
     Unknown,
     Line(LineKind, Items<Operand<N>>),
 }
 
-/// What a line is to the grammar of blocks, whatever else it says.
+/// The role of a line in the grammar of blocks.
 #[derive(Clone, Copy)]
 pub enum Role {
     Skip,

@@ -1,5 +1,6 @@
-//! What runs under sets and sweeps over sets come to, of two small scripts, and the order of sets. Each theorem is stated in `specs`, with
-//! a line that says what it shows. The functions do nothing: their contracts gather the theorems, so that the gate proves them.
+//! How runs under sets, and sweeps over sets, end for two small scripts, and the order of sets. Each theorem is stated in `specs`, with a
+//! line that says what the theorem shows. The functions do nothing: their contracts collect the theorems, so that checking the functions
+//! proves the theorems.
 
 ghost use Rattle.wb_worked.specs.WorkedOrder.{EmptyFirst, FirstOfThree, FirstOfTwo};
 ghost use Rattle.wb_worked.specs.WorkedOrder.{NoNumberTells, NotBeforeItself, OneBeforeTwo};
@@ -16,7 +17,7 @@ ghost use Rattle.wb_worked.specs.WorkedSweeps.{MoreThanFourAreMet, OneShowsNothi
 ghost use Rattle.wb_worked.specs.WorkedSweeps.{TwoShowNothing, UnmadeHasNoState};
 ghost use Rattle.wb_worked.specs.WorkedSweeps.{WholeFindsShorter};
 
-/// Under a set, exactly those of its attempts fail that the run makes.
+/// Under a set, exactly the attempts fail that are in the set and that the run makes.
 pub fn a_set_makes_its_attempts_fail()
     ensures none { NoneFails }
     ensures one { OneFails }
@@ -32,7 +33,8 @@ pub fn a_set_makes_its_attempts_fail()
     ensures ascend { NumbersAscend }
 {}
 
-/// Shorter sets come before longer ones; of two sets of one length, the one with the lesser number where they first differ comes first.
+/// Shorter sets come before longer sets. Of two sets of the same length, the set with the lesser number at their first difference comes
+/// first.
 pub fn sets_are_in_order()
     ensures empty { EmptyFirst }
     ensures one { OneNumber }
@@ -47,7 +49,7 @@ pub fn sets_are_in_order()
     ensures no_number { NoNumberTells }
 {}
 
-/// Three failures show what fewer don't: every lesser set is fine, and a larger one may be fine, too.
+/// Three failures show what fewer failures don't: every lesser set is fine, and a larger set may be fine too.
 pub fn three_failures_show_what_two_do_not()
     ensures least { ThreeIsLeast }
     ensures made { ThreeAreMade }
@@ -57,16 +59,16 @@ pub fn three_failures_show_what_two_do_not()
     ensures not_to_three { ThreeShowIt }
 {}
 
-/// Where a search over sets ends with `set none to 1` and `cut states`, the sets of one attempt are fine, and more states are met under at
-/// most two than it may meet.
+/// If a search over sets ends with `set none to 1` and `cut states`, the sets of one attempt are fine. Sets of at most two attempts then
+/// have more states than the search may meet.
 pub fn more_states_are_met_than_are_allowed()
     ensures fine { OneShowsNothing }
     ensures many { MoreThanFourAreMet }
     ensures unmade { UnmadeHasNoState }
 {}
 
-/// A sweep over a part finds the least bad set whose least number is in the part, and the lesser of what two parts find is what both
-/// together find.
+/// In two worked scripts, a sweep over a part finds the least bad set whose least number is in the part. If two parts each find a set, the
+/// lesser of the two sets is what the parts find together.
 pub fn parts_find_their_sets()
     ensures none_below { NoneBelow }
     ensures at_three { FoundAtThree }

@@ -1,4 +1,4 @@
-//! The text of a sweep that lists numbers, line by line. What a line of the list says is decided here alone.
+//! The text of a sweep that lists numbers, line by line. Only this module decides what a line of the list says.
 
 ghost use Rattle.std.specs.Prelude.{◌≡◌, ◌++◌, OnOk};
 ghost use Rattle.workbench.specs.AllReport.{bad_line, number_word, told_line, told_lines, told_text};
@@ -12,8 +12,8 @@ use wb_runs::failures::Failures;
 use wb_runs::number_ends::NumberEnd;
 use wb_sweep::AllNumbers;
 
-/// Appends the number of attempts of the run without failure, a line for each number that is listed, the count of listed numbers whose run
-/// leaks or panics, and the run of the least of these, if there is one.
+/// Appends how many attempts the run without failure makes, a line for each listed number, and how many of these numbers have a run that
+/// leaks or panics. If there are such numbers, also appends the run under the least of them.
 pub fn put_all(text: &mut Vec<u8>, failures: Failures, all: &AllNumbers) -> Result<(), NoMemory>
     ensures { OnOk result (text.new.items ≡ text.old.items ++ told_text failures all.now) }
 {

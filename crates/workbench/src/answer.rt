@@ -1,5 +1,5 @@
-//! The answer to a command: what is read, what is written, and the exit status. What a report says is in
-//! `report`.
+//! The answer to a command: what is read, what is written, and the exit status. `report` makes the text of a
+//! report.
 
 ghost use Rattle.std.specs.Prelude.{◌≡◌, ◌+◌, ◌<◌, ◌≤◌, IfOk, IsTrue, OnOk, OnErr, is_err};
 ghost use Rattle.std.specs.Io.KnownBytes.{Appends};
@@ -74,21 +74,22 @@ pub struct Answered {
     pub findings: Option<Findings>,
 }
 
-/// Answers a command whose numbers are in their ranges: reads the script, at most `MOST_READ` bytes of it,
-/// writes the report, as lines or as a JSON object, and returns the exit status, with what the report was made of.
+/// Answers a command whose numbers are in their ranges. Reads the script, at most `MOST_READ` bytes of it, and writes the report, as lines
+/// or as a JSON object. Returns the exit status, with what the report was made of.
 ///
-/// Statuses 0 to 3 are a report's own, and the whole report was written. With `WANT_OF_MEMORY`, only the line `no memory` was written. With
-/// `READ_OR_WRITE_FAULT`, either a read failed (an interrupted read fails, too), and the line `read fault` is written in place of a report;
-/// or a write failed or took no byte, and only the beginning of the text was written. Nothing is written before the whole text is ready.
+/// Statuses 0 to 3 belong to a report, and the whole report was written. With `WANT_OF_MEMORY`, only the line `no memory` was written. With
+/// `READ_OR_WRITE_FAULT`, a read or a write failed. If a read failed (an interrupted read fails too), the line `read fault` is written
+/// instead of a report. If a write failed or took no byte, only the beginning of the text was written. Nothing is written before the whole
+/// text is ready.
 ///
-/// Whether a read or a write failed is what that call itself answered, so that `READ_OR_WRITE_FAULT` is returned exactly if one of the
-/// calls that were made failed. No read follows a failed read or a read that returned no byte, and no write follows a failed write.
+/// Each read or write itself returns whether it failed. `READ_OR_WRITE_FAULT` is returned exactly if one of the calls that were made
+/// failed. No read follows a failed read or a read that returned no byte, and no write follows a failed write.
 ///
 /// The findings are what the report was made of: the bytes of the script that were read, and values of the report (see `Findings`). Without
-/// a report there are none.
+/// a report there are no findings.
 ///
-/// `progress` is notified of how far a sweep, or the search through all lengths, has come, always before anything is written. Nothing
-/// depends on what it does.
+/// `progress` is notified of how far a sweep, or the search through all lengths, has come. Nothing is written before the last of these
+/// notices. No result depends on what `progress` does.
 pub fn answer<R: Source, W: Sink, P: Progress>(
     alloc: Global,
     command: &Command,
@@ -112,7 +113,7 @@ pub fn answer<R: Source, W: Sink, P: Progress>(
     read_and_say(alloc, command, reader, writer, progress)
 }
 
-/// Does the work of `answer`, whose other clauses follow from these two.
+/// Does the work of `answer`. The other clauses of `answer` follow from the two clauses here.
 fn read_and_say<R: Source, W: Sink, P: Progress>(
     alloc: Global,
     command: &Command,
@@ -139,7 +140,7 @@ fn read_and_say<R: Source, W: Sink, P: Progress>(
     }
 }
 
-/// Writes the line `read fault`, and returns the status that goes with it, without findings.
+/// Writes the line `read fault`. Returns the status `READ_OR_WRITE_FAULT` without findings.
 pub fn say_read_fault<W: Sink>(writer: &mut W) -> Answered
     ensures { IsUnopened W.contents W.writes writer.old writer.new result }
 {
@@ -159,7 +160,7 @@ fn say<W: Sink>(writer: &mut W, text: &[u8], status: u8) -> u8
     }
 }
 
-/// A text that is ready to be written, the exit status that goes with it, and what it was made of.
+/// A text that is ready to be written, the exit status that goes with the text, and what the text was made of.
 #[derive(Debug, Drop)]
 struct Message {
     text: Vec<u8>,

@@ -1,4 +1,4 @@
-//! A report without the rows of its table: the lines that begin with `from`.
+//! A report without the rows of its table. The rows are the lines that begin with `from`.
 
 ghost use Rattle.std.specs.Prelude.{◌≡◌, ◌++◌, IfOk, OnOk};
 ghost use Rattle.workbench.specs.Ascii.{HasPrintableLines};
@@ -9,7 +9,7 @@ use crate::report::Report;
 use std::alloc::{AllocError, Global};
 use wb_command_line::command::Command;
 
-/// Returns a report with the lines that a command shows. The only error is that memory ran out.
+/// Returns the report as the command wants it shown: with or without the rows of its table. The only error is that memory ran out.
 pub fn shown_report(alloc: Global, command: &Command, report: Report) -> Result<Report, AllocError>
     requires { HasPrintableLines report.text.items }
     ensures text { IfOk result (λ shown.

@@ -1,4 +1,4 @@
-//! The words for how a run ended. Which lines contain these words is decided elsewhere.
+//! The words for how a run ended. Other modules decide which lines contain these words.
 
 ghost use Rattle.std.specs.Prelude.{◌≡◌, ◌++◌, OnOk};
 ghost use Rattle.workbench.specs.EndWords.{cut_words, end_words, panic_words};

@@ -23,9 +23,9 @@ use wb_runs::part::Part;
 use wb_sweep::{EverySetFault, Progress, SetSweep, sweep_every_set};
 use wb_tree::script::Script;
 
-/// The report of a sweep over the sets of attempts, of any size, whose least number is in the part: the least set whose run leaks or
-/// panics, or that there is none; the line of a run that was cut; or the lines of a search that met more than `states` states.
-/// `Part::WHOLE` has all sets.
+/// The report of a sweep over all sets of attempts whose least number is in the part; `Part::WHOLE` has all sets. The report names the
+/// least set whose run leaks or panics, or says that there is no such set. If the sweep ends at a run that was cut, the report has the line
+/// of this run. If the search meets more than `states` states, the report has lines that say so.
 pub fn every_set_report<P: Progress>(
     alloc: Global,
     script: &Script,
@@ -66,7 +66,7 @@ fn found_report(alloc: Global, sweep: SetSweep) -> Result<Report, NoMemory>
     Ok(report_with(text, sweep))
 }
 
-/// The report of a search that met more states than it may. No set of at most `fine` attempts has a run that leaks, panics or is cut.
+/// The report of a search that met more states than are allowed. No set of at most `fine` attempts has a run that leaks, panics or is cut.
 fn many_states_report(
     alloc: Global,
     script: &Script,

@@ -1,4 +1,4 @@
-//! The text of what a sweep over all sets of attempts finds, line by line. Sets are written as in `sets_text`.
+//! The text of what a sweep over all sets of attempts finds, line by line. `sets_text` writes the sets.
 
 ghost use Rattle.std.specs.Prelude.{◌≡◌, ◌++◌, OnOk};
 ghost use Rattle.workbench.specs.EverySetReport.{every_set_text, many_states_text};
@@ -9,8 +9,8 @@ use std::io::Write;
 use wb_basics::memory::NoMemory;
 use wb_sweep::SetSweep;
 
-/// Appends the number of attempts of the run without failure, and then the set that was found and its run, or a line that there is no such
-/// set.
+/// Appends how many attempts the run without failure makes. Then appends the set that was found and its run, or a line that says that no
+/// set was found.
 pub fn put_every_set(text: &mut Vec<u8>, sweep: &SetSweep) -> Result<(), NoMemory>
     ensures { OnOk result (text.new.items ≡ text.old.items ++ every_set_text sweep.now) }
 {
@@ -22,8 +22,8 @@ pub fn put_every_set(text: &mut Vec<u8>, sweep: &SetSweep) -> Result<(), NoMemor
     }
 }
 
-/// Appends the number of attempts of the run without failure, a line that no set of at most `fine` attempts was found, and a line that more
-/// states were met than may be.
+/// Appends three lines: how many attempts the run without failure makes, that no set of at most `fine` attempts was found, and that the
+/// search met too many states.
 pub fn put_many_states(text: &mut Vec<u8>, attempts: u64, fine: u32) -> Result<(), NoMemory>
     ensures { OnOk result (text.new.items ≡ text.old.items ++ many_states_text attempts fine) }
 {

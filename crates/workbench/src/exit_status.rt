@@ -1,5 +1,5 @@
-//! The exit statuses of the program. They are numbers rather than an enum, since a JSON report has its status as a number, and contracts
-//! state the number with which each answer ends.
+//! The exit statuses of the program. They are numbers, not an enum, because a JSON report has its status as a number, and contracts
+//! state the status of each answer as a number.
 
 /// Nothing was found.
 pub const NOTHING_FOUND: u8 = 0;

@@ -11,23 +11,25 @@ use wb_size::Rises;
 pub struct Findings {
     /// The bytes of the script that were read.
     pub bytes: Vec<u8>,
-    /// The failure that the report names: the one whose run it shows, or under which a run was cut. `None` if it names no failure.
+    /// The failure that the report names; `None` if the report names no failure. The report shows the run under this failure, or says that
+    /// this run was cut.
     pub at: Option<Failing>,
-    /// The set of two attempts or more that the report names in the same way; `None` if it names no such set.
+    /// The set of two or more attempts that the report names; `None` if the report names no such set. The report shows the run in which
+    /// these attempts fail, or says that this run was cut.
     pub set: Option<Numbers>,
-    /// If a search met more states than it may: a number K such that no set of at most K attempts has a run that leaks, panics or is cut.
-    /// Otherwise `None`.
+    /// `Some` exactly if a search met more states than are allowed. Then no set of at most this many attempts has a run that leaks, panics
+    /// or is cut.
     pub fine: Option<u32>,
-    /// The attempt that each shorter heap denies first; `None` if the script wasn't sized.
+    /// The attempt that each shorter heap refuses first; `None` if the script wasn't sized.
     pub rises: Option<Rises>,
-    /// How the run ends in heaps of every length; `None` if that wasn't asked for, or if the script is rejected.
+    /// How the run ends in heaps of every length; `None` if the command doesn't ask for this, or if the script is rejected.
     pub ranges: Option<LengthTable>,
-    /// How the run of each listed number ended: with `--all` of the numbers whose run leaks, panics or is cut, with `--ends` of every
+    /// How the run of each listed number ended. `--all` lists the numbers whose run leaks, panics or is cut, and `--ends` lists every
     /// number. `None` if no list was asked for, if the script is rejected, or if the run without failure is cut.
     pub all: Option<NumberEnds>,
 }
 
-/// Written by hand, so that a proof about a function that drops such a value has a single call there, and only this function goes over the
+/// This `drop` is written by hand, so that dropping a `Findings` is a single call in a proof. Only the proof of `drop` itself goes over the
 /// fields.
 impl Drop for Findings {
     fn drop(self) {

@@ -1,6 +1,6 @@
-//! What surrounds the program: files, standard input, and the place where messages go. What is done with them is in `program`.
+//! What surrounds the program: files, standard input, and the place where messages go. `program` uses all of these.
 //!
-//! Each trait names relations for what its calls do. No contract looks into these relations, as with those of streams (`wb_streams`).
+//! Each trait names relations for what its calls do. No contract looks into these relations. The same holds for streams (`wb_streams`).
 
 ghost use Rattle.std.specs.Prelude.{◌≡◌, ℕ, List, Option, ⊤};
 ghost use Rattle.workbench.specs.Program.{fault_of_words};
@@ -13,7 +13,7 @@ use thiserror::Error;
 use wb_command_line::command::CommandFault;
 use wb_streams::streams::Source;
 
-/// Why the program's words are no command.
+/// Why the program's words aren't a command.
 #[derive(Debug, Drop, Error)]
 pub enum WordsFault {
     /// A word is not UTF-8.
@@ -32,7 +32,7 @@ impl From<CommandFault> for WordsFault {
     }
 }
 
-/// The fault if there is an error in place of the words.
+/// The fault for an error that came in place of the words.
 impl From<io::Error> for WordsFault {
     ghost from_gives = { λ error fault. fault ≡ fault_of_words error };
 
@@ -51,10 +51,10 @@ pub trait Host {
 
     type Input: Source + Drop;
 
-    /// What opening a file does: the host before it, the file's name, the file if it can be opened, and the host after it.
+    /// What opening a file does. It relates the host before, the file's name, the file (if it can be opened), and the host after.
     ghost opens: { Self → List ℕ → Option Self.File → Self → Type 0 };
 
-    /// What asking for standard input does: the host before it, the input, and the host after it.
+    /// What asking for standard input does. It relates the host before, the input, and the host after.
     ghost lends: { Self → Self.Input → Self → Type 0 };
 
     /// Opens a file to read it; `None` if it can't be opened.
@@ -67,7 +67,7 @@ pub trait Host {
 
 /// Where the user is told why there is no command.
 pub trait Messages {
-    /// What reporting a fault does: what was there before, the fault, and what is there after.
+    /// What reporting a fault does. It relates the messages before, the fault, and the messages after.
     ghost reports: { Self → Fault → Self → Type 0 };
 
     fn report(&mut self, fault: &WordsFault)
@@ -77,7 +77,7 @@ pub trait Messages {
 impl<W: Write> Messages for W {
     ghost reports = { λ _ _ _. ⊤ };
 
-    /// Ignores whether the message could be written.
+    /// Writes the message of the fault, and ignores whether the message could be written.
     fn report(&mut self, fault: &WordsFault) {
         let _ = write!(self, "{fault}");
     }

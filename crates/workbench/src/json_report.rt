@@ -1,4 +1,4 @@
-//! The report as one JSON object. What it reports is decided elsewhere.
+//! The report as one JSON object. Other modules decide what the report says.
 
 ghost use Rattle.std.specs.Prelude.{◌≡◌, ◌≢◌, ◌∷◌, ◌<◌, [], length, IfOk, OnOk, map};
 ghost use Rattle.serde_json.specs.View.{members_view, view};
@@ -30,8 +30,8 @@ use wb_size::Rises;
 /// The version of the JSON form of a report, unless the report has `LATER_VERSION`.
 const VERSION: u32 = 2;
 
-/// The version of the reports of all lengths, of sweeps that list numbers, and of sweeps over sets, each of which has a key that version 2
-/// lacks; and of sweeps of a kind that version 2 lacks.
+/// The version for reports of all lengths, of sweeps that list numbers, and of sweeps over sets: each of these reports has a key that
+/// version 2 lacks. Also the version for sweeps of a kind that version 2 lacks.
 const LATER_VERSION: u32 = 3;
 
 /// Returns the report of a task as a JSON object without blanks, followed by a line feed. The only error is that memory ran out.
@@ -46,7 +46,7 @@ pub fn json_text(alloc: Global, task: &Task, report: &Report) -> Result<Vec<u8>,
     Ok(text)
 }
 
-/// Returns the object. Its keys are in alphabetical order.
+/// Returns the report of a task as a JSON object whose keys are in alphabetical order.
 #[tactic(auto, unfolding(crate::specs::JsonReport::report_object))]
 fn report_object(alloc: Global, task: &Task, report: &Report) -> Result<Value, AllocError>
     requires { HasPrintableLines report.now.text.items }
@@ -95,7 +95,7 @@ fn common_members(
     Ok(members)
 }
 
-/// Adds the member `ranges`, the table of lengths, if the task's report has that table.
+/// Adds the member `ranges`, the table of lengths, if the task's report has this table.
 fn put_ranges(
     members: &mut Map<String, Value>,
     alloc: Global,
@@ -114,7 +114,7 @@ fn put_ranges(
     }
 }
 
-/// Returns what a task searches for among failures; `None` if it makes no such search.
+/// Returns what a task searches for among failures; `None` if the task makes no such search.
 fn search_of(task: &Task) -> Option<Search>
     ensures { result ≡ searched task.now }
 {
@@ -124,7 +124,7 @@ fn search_of(task: &Task) -> Option<Search>
     }
 }
 
-/// Adds the member `all`, the list of numbers, if the task's report has that list.
+/// Adds the member `all`, the list of numbers, if the task's report has this list.
 fn put_told(
     members: &mut Map<String, Value>,
     alloc: Global,
@@ -166,7 +166,7 @@ fn version_of(task: &Task) -> u32
     }
 }
 
-/// Returns the version for a search.
+/// Returns the version of the JSON form of a search's report.
 fn search_version(search: Search) -> u32
     ensures { result ≡ search_version search }
 {
@@ -176,7 +176,7 @@ fn search_version(search: Search) -> u32
     }
 }
 
-/// Returns the version for a sweep over these failures that reports only the least of them.
+/// Returns the version of the JSON form for a sweep over these failures, if the sweep reports only the least bad failure.
 fn failures_version(failures: Failures) -> u32
     ensures { result ≡ failures_version failures }
 {
@@ -186,7 +186,7 @@ fn failures_version(failures: Failures) -> u32
     }
 }
 
-/// What a task tries: its kind of failures, `sets` or `lengths`; `null` if it tries none. The kind depends on the task alone.
+/// What a task tries: a kind of failures, `sets` or `lengths`; `null` if the task tries none of these. The value depends only on the task.
 fn kind_of(alloc: Global, task: &Task) -> Result<Value, AllocError>
     ensures { IfOk result (λ value. view value ≡ kind_of task.now) }
 {
@@ -219,7 +219,7 @@ fn failures_kind(alloc: Global, failures: Failures) -> Result<Value, AllocError>
     }
 }
 
-/// A number, or `null` if it is `None`.
+/// A number as a JSON value; `null` if `count` is `None`.
 fn count_or_null(count: Option<u64>) -> Value
     ensures { view result ≡ count_or_null count }
 {
@@ -244,7 +244,7 @@ fn line_strings(alloc: Global, text: &[u8]) -> Result<Value, AllocError>
     Ok(Value::Array(strings))
 }
 
-/// A line of printable ASCII as a string. The lossy conversion loses nothing of such a line.
+/// A line of printable ASCII as a string. For such a line, the lossy conversion loses nothing.
 fn line_string(alloc: Global, line: &[u8]) -> Result<Value, AllocError>
     requires { ArePrintable line.now }
     ensures { IfOk result (λ value. view value ≡ line_string line.now) }
@@ -252,7 +252,7 @@ fn line_string(alloc: Global, line: &[u8]) -> Result<Value, AllocError>
     Ok(Value::String(String::from_utf8_lossy(alloc, line)?))
 }
 
-/// Returns the first line without its line feed, and the bytes after that line feed.
+/// Returns the first line without its line feed, and the bytes after this line feed.
 pub(crate) fn first_line<'a>(bytes: &'a [u8]) -> (&'a [u8], &'a [u8])
     requires { bytes.now ≢ [] }
     ensures lines { lines_of bytes.now ≡ result.0.now ∷ lines_of result.1.now }
@@ -266,7 +266,8 @@ pub(crate) fn first_line<'a>(bytes: &'a [u8]) -> (&'a [u8], &'a [u8])
     (bytes, &bytes[bytes.len()..])
 }
 
-/// What a search found: a failure, a length in bytes or the numbers of `set`; `none` if nothing, `null` if no search was finished.
+/// What a search found: a failure, a length in bytes, or the numbers of `set`. The value is `none` if the search found nothing, and `null`
+/// if there was no search or the search wasn't finished.
 fn failing_number(
     alloc: Global,
     number: Option<FailingNumber>,
@@ -303,8 +304,8 @@ fn all_counts(alloc: Global, numbers: &[u32]) -> Result<Vec<Value>, AllocError>
     Ok(counts)
 }
 
-/// A failure: the number of the attempt that fails, alone or as the first of all that fail; the rate at which attempts fail; or a list of
-/// the two attempts that fail.
+/// A failure as a JSON value: a list of the two attempts of a pair, or one number. The number is the attempt that fails alone, the attempt
+/// from which on all attempts fail, or the rate at which attempts fail.
 fn failing_value(alloc: Global, failing: Failing) -> Result<Value, AllocError>
     ensures { IfOk result (λ value. view value ≡ failing_value failing) }
 {
@@ -324,7 +325,7 @@ fn count_pair(alloc: Global, first: u32, second: u32) -> Result<Value, AllocErro
     Ok(Value::Array(pair))
 }
 
-/// The table of rises, or `null` if there is none.
+/// The table of rises; `null` if `rises` is `None`.
 fn rise_pairs(alloc: Global, rises: &Option<Rises>) -> Result<Value, AllocError>
     ensures { IfOk result (λ pairs. view pairs ≡ rise_pairs rises.now) }
 {
@@ -344,7 +345,7 @@ fn all_pairs(alloc: Global, rises: &[Rise]) -> Result<Vec<Value>, AllocError>
     Ok(pairs)
 }
 
-/// The table of lengths, or `null` if there is none.
+/// The table of lengths; `null` if `ranges` is `None`.
 fn range_pairs(alloc: Global, ranges: &Option<LengthTable>) -> Result<Value, AllocError>
     ensures { IfOk result (λ pairs. view pairs ≡ range_pairs ranges.now) }
 {
@@ -364,7 +365,7 @@ fn all_ranges(alloc: Global, ranges: &[LengthRange]) -> Result<Vec<Value>, Alloc
     Ok(pairs)
 }
 
-/// The numbers that a sweep lists, each with the end of its run, or `null` if there is no list.
+/// The numbers that a sweep lists, each with the end of its run; `null` if `ends` is `None`.
 fn told_pairs(alloc: Global, ends: &Option<NumberEnds>) -> Result<Value, AllocError>
     ensures { IfOk result (λ pairs. view pairs ≡ told_pairs ends.now) }
 {
@@ -384,7 +385,7 @@ fn all_told(alloc: Global, ends: &[NumberEnd]) -> Result<Vec<Value>, AllocError>
     Ok(pairs)
 }
 
-/// A list of a number and the words for how a run ends.
+/// A list of two elements: a number, and the words for how a run ends.
 fn words_pair(alloc: Global, number: u32, end: RunEnd) -> Result<Value, AllocError>
     ensures { IfOk result (λ pair. view pair ≡ words_pair number end) }
 {

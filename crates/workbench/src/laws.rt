@@ -1,4 +1,4 @@
-//! Laws of reports and of the program. Each is the contract of a function that does nothing, so that the gate proves it.
+//! Laws of reports and of the program. Each law is the contract of a function that does nothing, so that the gate proves the law.
 
 ghost use Rattle.std.specs.Prelude.{◌≡◌, ℕ, List, None, IsTrue, false};
 ghost use Rattle.clap.specs.Words.{Text};
@@ -19,15 +19,16 @@ ghost use Rattle.workbench.specs.declared.report_values.ReportValues.{ReportValu
 ghost use Rattle.workbench.specs.declared.host.WordsFault.{WordsFault};
 ghost use Rattle.workbench.specs.declared.host.WordsFault.TheVariants.{Refused};
 
-/// The rises are exactly the granted attempts of the run without a limit whose cells end past the cells of all attempts granted before, in
-/// the order of the trace. Their numbers and the ends of their cells are the rows of a printed table.
+/// The rises are granted attempts of the run without a limit, in the order of the trace: exactly those whose cells end past the cells of
+/// all attempts granted before. The rises' numbers and the ends of their cells are the rows of a printed table.
 pub fn rises_are()
     ensures { (script : Script) (budget : ℕ) (shape : Shape)
         → AreRises (run script Unlimited budget shape).trace (rises script budget shape) }
 {}
 
-/// The bytes and the command determine the report: any two reports of them have one text, one status and the same values. Where all sets
-/// are tried, this holds of reports that aren't cut by their states: a report that is doesn't say how states are counted.
+/// The bytes and the command determine the report: any two reports of this command on these bytes have the same text, status and values. If
+/// the command tries all sets, the law holds only for reports of searches that weren't ended by too many states. For the other searches,
+/// the definition of the report leaves open how states are counted.
 pub fn one_report()
     ensures one { (command : Command) (bytes text other_text : List ℕ)
         (values other_values : ReportValues) (status other_status : ℕ) →
@@ -43,8 +44,8 @@ pub fn one_report()
         (text ≡ other_text) × (values ≡ other_values) × (status ≡ other_status) }
 {}
 
-/// The text of a report is printable ASCII and line feeds, so that each of its lines has only bytes from 32 to 126. The same holds for the
-/// lines that are written in place of a report, `no memory` and `read fault`.
+/// The text of a report is printable ASCII and line feeds, so that each of its lines has only bytes from 32 to 126. The lines that are
+/// written in place of a report, `no memory` and `read fault`, are printable ASCII and line feeds too.
 pub fn reports_are_ascii()
     ensures text { (command : Command) (bytes text : List ℕ) (values : ReportValues) (status : ℕ) →
         IsReport command bytes text values status → IsPrintableText text }
@@ -54,8 +55,9 @@ pub fn reports_are_ascii()
     ensures read_fault { IsPrintableText read_fault }
 {}
 
-/// Words that spell a command with its numbers in their ranges have no fault, except that memory may run out, which says nothing of the
-/// words. So as long as memory doesn't run out, the words alone decide whether `program` carries them out or reports a fault.
+/// If words spell a command whose numbers are in their ranges, the only fault that these words can have is that memory ran out. This fault
+/// says nothing about the words. So as long as memory doesn't run out, the words alone decide whether `program` carries them out or reports
+/// a fault.
 pub fn words_are_obeyed_or_blamed()
     ensures { (words : List Text) (command : Command) (fault : WordsFault)
         → IsSpelledBy words command → IsTrue (is_answerable command) → IsWordsFault words fault

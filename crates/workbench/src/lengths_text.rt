@@ -1,4 +1,4 @@
-//! The text of how a script's run ends in heaps of every length, line by line. What these lines say is decided here alone.
+//! The text of how a script's run ends in heaps of every length, line by line. Only this module decides what these lines say.
 
 ghost use Rattle.std.specs.Prelude.{◌≡◌, ◌++◌, OnOk};
 ghost use Rattle.workbench.specs.LengthsReport.{bad_length_text, found_length_text, range_line, table_lines};
@@ -10,7 +10,8 @@ use std::io::Write;
 use wb_basics::memory::NoMemory;
 use wb_lengths::{BadLength, LengthFindings, LengthRange, LengthTable};
 
-/// Appends the table, and then the least length whose run leaks or panics and that run, or a line that there is no such length.
+/// Appends the table of lengths. Then appends the least length whose run leaks or panics, and this run. If there is no such length, appends
+/// a line that says so instead.
 pub fn put_lengths(text: &mut Vec<u8>, found: &LengthFindings) -> Result<(), NoMemory>
     ensures { OnOk result (text.new.items
         ≡ text.old.items ++ table_lines found.now.table ++ found_length_text found.now.bad) }

@@ -1,4 +1,4 @@
-//! The workbench: reads a script, runs it against the simulated heap and reports.
+//! The workbench reads a script, runs it against the simulated heap, and reports.
 //!
 //! The program is `wb_main`, which hands the process's own words, files and streams to `program`.
 #![tactic(auto)]
@@ -37,4 +37,4 @@ pub use wb_meaning::run::RunResult;
 pub use wb_runs::failures::Failures;
 pub use wb_runs::part::Part;
 pub use wb_streams::{Sink, Source, StreamFault};
-pub use wb_sweep::{Aim, Progress, Silent};
+pub use wb_sweep::{Aim, Progress, Silent, StepProgress};

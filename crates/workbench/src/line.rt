@@ -1,5 +1,5 @@
-//! A line of a report that is built from its end to its front, and then appended to a text in one piece. What a line says is decided
-//! elsewhere.
+//! A line of a report that is built from its end to its front, and then appended to a text in one piece. Other modules decide what a
+//! line says.
 
 ghost use Rattle.std.specs.Prelude.{◌≡◌, ◌+◌, ◌≤◌, [], ◌∷◌, ◌++◌, length, OnOk};
 ghost use Rattle.std.specs.Fmt.{decimal};
@@ -8,12 +8,12 @@ use itoa::write_digits;
 use std::marker::Model;
 use wb_basics::memory::NoMemory;
 
-/// The length of the longest line in bytes, with its line feed: the line of an attempt that was made to fail and whose three numbers have
-/// ten digits each.
+/// The length of the longest line in bytes, with its line feed. The longest line is the line of an attempt that was made to fail, if the
+/// three numbers in it have ten digits each.
 pub const LONGEST_LINE: usize = 64;
 
-/// The end of a line, which grows at its front: what is put comes before the bytes that are there. So a number's digits are written right
-/// in their place, however many they are. To contracts a `Line` is the bytes that are there.
+/// The end of a line, which grows at its front: new bytes come before the bytes that are already there. So a number's digits are written
+/// directly to their final place, however many digits there are. In contracts, a `Line` stands for the bytes that are already there.
 #[derive(Drop)]
 pub struct Line {
     bytes: [u8; LONGEST_LINE],
@@ -45,7 +45,7 @@ impl Line {
         }
     }
 
-    /// Puts a word before the bytes that are there.
+    /// Puts a word before the bytes that are already there.
     #[inline]
     pub fn put_word(&mut self, word: &[u8])
         requires { length word.now + length self.old ≤ LONGEST_LINE }
@@ -57,7 +57,7 @@ impl Line {
         self.bytes[self.start..end].copy_from_slice(word);
     }
 
-    /// Puts a number's decimal digits, ten at most, before the bytes that are there.
+    /// Puts a number's decimal digits, ten at most, before the bytes that are already there.
     #[inline]
     #[tactic(auto, using(crate::proofs::LineLemmas::longer_by_digits))]
     pub fn put_number(&mut self, number: u32)

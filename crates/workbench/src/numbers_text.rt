@@ -1,5 +1,5 @@
-//! The text of the two numbers, line by line: how long the heap must be, and which failure makes the run leak or panic. What these lines
-//! say is decided here alone.
+//! The text of the two numbers, line by line: how long the heap must be, and which failure makes the run leak or panic. Only this module
+//! decides what these lines say.
 
 ghost use Rattle.std.specs.Prelude.{◌≡◌, ◌++◌, OnOk};
 ghost use Rattle.workbench.specs.TwoNumbers.{cut_at_line, failing_line, none_line, refuses_line, size_text, sweep_text};
@@ -16,7 +16,7 @@ use wb_runs::failures::{Failing, Failures};
 use wb_size::Sizing;
 use wb_sweep::Sweep;
 
-/// Appends the required length and the table of the attempts that shorter heaps deny first.
+/// Appends the required length and the table of the attempts that shorter heaps refuse first.
 pub fn put_sizing(text: &mut Vec<u8>, sizing: &Sizing) -> Result<(), NoMemory>
     ensures { OnOk result (text.new.items
         ≡ text.old.items ++ size_text sizing.now.required sizing.now.rises) }
@@ -27,7 +27,8 @@ pub fn put_sizing(text: &mut Vec<u8>, sizing: &Sizing) -> Result<(), NoMemory>
     or_no_memory(writeln!(text, "enough from {required}"))
 }
 
-/// Appends a line for each rise. It begins with the top of the rise before it, and with 0 for the first rise.
+/// Appends a line for each rise. Each line says from which length on it holds: from the top of the previous rise, or from 0 for the first
+/// rise.
 fn put_table(text: &mut Vec<u8>, rises: &[Rise]) -> Result<(), NoMemory>
     ensures { OnOk result (text.new.items ≡ text.old.items ++ table_text 0 rises.now) }
 {
@@ -50,8 +51,8 @@ fn put_refuses(text: &mut Vec<u8>, from: u32, number: u32) -> Result<(), NoMemor
     line.append_to(text)
 }
 
-/// Appends the number of attempts of the run without failure, and then the failure that was found and its run, or a line that there is no
-/// such failure.
+/// Appends how many attempts the run without failure makes. Then appends the failure that was found and its run, or a line that says that
+/// no failure was found.
 pub fn put_sweep(text: &mut Vec<u8>, failures: Failures, sweep: &Sweep) -> Result<(), NoMemory>
     ensures { OnOk result (text.new.items ≡ text.old.items ++ sweep_text failures sweep.now) }
 {

@@ -23,8 +23,8 @@ use wb_runs::part::Part;
 use wb_sweep::{AllNumbers, Listing, Progress, SweepFault, sweep_all, sweep_part};
 use wb_tree::script::Script;
 
-/// The report of a sweep over those of these failures that the part has: the least whose run leaks or panics, or that there is none; or the
-/// line of a run that was cut.
+/// The report of a sweep over the part's failures of this kind. The report names the least failure whose run leaks or panics, or says that
+/// there is none. If the sweep ends at a run that was cut, the report has the line of this run.
 pub fn report_over<P: Progress>(
     alloc: Global,
     script: &Script,
@@ -55,7 +55,7 @@ fn is_whole(part: Part) -> bool
     part.from == 0 && part.to == CEILING
 }
 
-/// The same report for a part that isn't the whole.
+/// Does what `report_over` does, for a part that doesn't have all numbers.
 fn part_report<P: Progress>(
     alloc: Global,
     script: &Script,
@@ -96,8 +96,8 @@ fn part_report<P: Progress>(
     }
 }
 
-/// The report of a sweep that lists numbers: how the run ends under each listed number of the part, and the run under the least number that
-/// leaks or panics; or, if the run without failure was cut, the line of that run.
+/// The report of a sweep that lists numbers. The report says how the run ends under each listed number of the part, and shows the run under
+/// the least number whose run leaks or panics. If the run without failure was cut, the report has only the line of this run.
 pub fn list_report<P: Progress>(
     alloc: Global,
     script: &Script,
@@ -149,7 +149,7 @@ fn told_report(alloc: Global, failures: Failures, all: AllNumbers) -> Result<Rep
     })
 }
 
-/// The status if no run leaks or panics: 3 if the run of a listed number was cut, and otherwise 0.
+/// The status if no run leaks or panics: 3 if the run of a listed number was cut, and 0 if no listed number's run was cut.
 fn fine_status(ends: &[NumberEnd]) -> u8
     ensures { result ≡ fine_status ends.now }
 {

@@ -1,5 +1,4 @@
-//! The whole program, over the words, the files and the streams that it is handed. `main` hands over the
-//! process's own.
+//! The whole program. It works on the words, the files and the streams that it is handed. `main` hands over those of the process.
 
 ghost use Rattle.std.specs.Prelude.{◌≡◌, ◌≤◌, IfErr, IfOk, IsTrue, MatchResult, Some, map, true};
 ghost use Rattle.clap.specs.Words.{takes};
@@ -25,24 +24,26 @@ use wb_sweep::{Progress, Silent};
 pub struct Exit {
     /// The exit status.
     pub status: u8,
-    /// The command that the words spell; `None` if they spell none.
+    /// The command that the words spell; `None` if the words spell no command.
     pub command: Option<Command>,
     /// What the report was made of; `None` if there is no report.
     pub findings: Option<Findings>,
 }
 
-/// Carries out the command that the words spell, and returns the exit status, with what an explanation and a picture of the answer need:
-/// that command, unchanged, and the findings of the answer. `words` are all of the program's words, its name first, or the error that came
-/// in their place; all of them are handed to `command`.
+/// Carries out the command that the words spell, and returns the exit status. Also returns what an explanation or a picture of the answer
+/// needs: this command, unchanged, and the findings of the answer. `words` are all of the program's words, its name first, or the error
+/// that came in place of the words. All words are handed to `command`.
 ///
-/// If the words are no command, the reason is reported to `messages`, and neither `host` nor `output` is touched; the status is
-/// `COMMAND_LINE_FAULT`, or `WANT_OF_MEMORY` if the memory for the command ran out. Otherwise `messages` isn't touched. The script is read
-/// from the file that the command names, which is opened once, or from standard input if the command names no file, and the answer is
-/// written to `output`. If the file can't be opened, the answer is the line `read fault`, with `READ_OR_WRITE_FAULT`.
+/// If the words aren't a command, the reason is reported to `messages`, and `host` and `output` stay untouched. The status is then
+/// `COMMAND_LINE_FAULT`, or `WANT_OF_MEMORY` if the memory for the command ran out.
 ///
-/// `progress` is notified of how far a sweep, or the search through all lengths, has come, unless the command asks for no progress, and
-/// always before anything is written to `output`. No clause mentions `progress`, and nothing depends on what it does. If it writes to the
-/// stream that is handed over as `messages`, as in `main`, that stream also gets what `progress` writes.
+/// If the words are a command, `messages` isn't touched. The script is read from the file that the command names, or from standard input if
+/// the command names no file. A file is opened once. The answer is written to `output`. If the file can't be opened, the answer is the line
+/// `read fault`, with the status `READ_OR_WRITE_FAULT`.
+///
+/// `progress` is notified of how far a sweep, or the search through all lengths, has come, unless the command asks for no progress. Nothing
+/// is written to `output` before the last of these notices. No clause mentions `progress`, and no result depends on what `progress` does.
+/// If `progress` writes to the stream that is handed over as `messages`, as in `main`, this stream also gets what `progress` writes.
 pub fn program<S: AsStr + Drop, H: Host, W: Sink, M: Messages, P: Progress>(
     alloc: Global,
     words: io::Result<Vec<S>>,
@@ -91,7 +92,7 @@ fn exit_of(command: Command, answered: Answered) -> Exit
     }
 }
 
-/// Returns the command that the words spell, or why there is none.
+/// Returns the command that the words spell, or why there is no command.
 fn read_words<S: AsStr + Drop>(
     alloc: Global,
     words: io::Result<Vec<S>>,
@@ -104,7 +105,7 @@ fn read_words<S: AsStr + Drop>(
     Ok(command(alloc, words.as_slice())?)
 }
 
-/// Answers the command, and notifies `progress` unless the command asks for none.
+/// Answers the command, and notifies `progress` unless the command asks for no progress.
 fn answer_command<H: Host, W: Sink, P: Progress>(
     alloc: Global,
     command: &Command,
@@ -127,8 +128,8 @@ fn answer_command<H: Host, W: Sink, P: Progress>(
     }
 }
 
-/// Answers the command on the script in its file, or on standard input if the command names no file. The file is opened before any of it is
-/// read.
+/// Answers the command on the script in the file that the command names, or on standard input if the command names no file. The file is
+/// opened before anything is read from it.
 fn carry_out<H: Host, W: Sink, P: Progress>(
     alloc: Global,
     command: &Command,

@@ -17,7 +17,7 @@ use wb_command_line::command::Command;
 use wb_language::fault::ScriptFault;
 use wb_sweep::Progress;
 
-/// A report as lines, its values, and the exit status that goes with it.
+/// A report as lines, the report's values, and the exit status that goes with the report.
 #[derive(Debug, Drop)]
 pub struct Report {
     pub text: Vec<u8>,
@@ -43,7 +43,7 @@ pub fn report_on<P: Progress>(
     }
 }
 
-/// The report of a fault that the bytes have: its line, with status 2.
+/// The report on bytes that are no script: the line of their fault, with status 2.
 fn refusal(alloc: Global, fault: ScriptFault) -> Result<Report, NoMemory>
     requires { fault ≢ ScriptFault.NoMemory }
     ensures text { IfOk result (λ r. r.text.items ≡ fault_line fault) }
@@ -73,7 +73,7 @@ fn put_fault(text: &mut Vec<u8>, fault: ScriptFault) -> Result<(), NoMemory>
         ScriptFault::MayLeave { line } => put_refused_at(text, 7, line),
         ScriptFault::NoMain => put_refused(text, 8),
         ScriptFault::TooMany { line } => put_refused_at(text, 9, line),
-        // Excluded by the contract, since it is no fault of the bytes.
+        // The contract excludes `NoMemory`: it is no fault of the bytes.
         ScriptFault::NoMemory => unreachable!(),
     }
 }

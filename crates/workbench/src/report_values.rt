@@ -1,5 +1,5 @@
-//! The values of a report, beside its lines. A JSON report has them under keys of their own, except `named` and `fine`, which it lacks, and
-//! `set`, which is under the key of `number`.
+//! The values of a report, besides its lines. A JSON report has a key for each value, with three exceptions: it lacks `named` and `fine`,
+//! and it has `set` under the key of `number`.
 
 ghost use Rattle.std.specs.Prelude.{◌≡◌};
 ghost use Rattle.workbench.specs.ReportValues.{all_values, both_values, cut_values, found_failing, lengths_values};
@@ -13,7 +13,7 @@ use wb_runs::lengths::LengthTable;
 use wb_runs::number_ends::NumberEnds;
 use wb_size::{Rises, Sizing};
 
-/// The least failure, or the least length of heap, whose run leaks or panics, of those that were tried.
+/// Of all failures or lengths of heap that were tried, the least whose run leaks or panics.
 #[derive(Clone, Copy, Debug, PartialEq, Eq)]
 pub enum FailingNumber {
     /// No failure that was tried, or no length of heap, has a run that leaks or panics.
@@ -47,22 +47,24 @@ pub struct ReportValues {
     pub number: Option<FailingNumber>,
     /// The length that the heap must have, in bytes.
     pub required: Option<u64>,
-    /// The attempt that each shorter heap denies first.
+    /// The attempt that each shorter heap refuses first.
     pub rises: Option<Rises>,
     /// How the run ends in heaps of every length.
     pub ranges: Option<LengthTable>,
     /// How the run ended under each number that is listed.
     pub all: Option<NumberEnds>,
-    /// The failure that the lines name: the one whose run they show, or under which a run was cut. `None` if they name no failure.
+    /// The failure that the lines name; `None` if the lines name no failure. The lines show the run under this failure, or say that this
+    /// run was cut.
     pub named: Option<Failing>,
-    /// The set of two attempts or more that the lines name in the same way. `None` if they name no such set.
+    /// The set of two or more attempts that the lines name; `None` if the lines name no such set. The lines show the run in which these
+    /// attempts fail, or say that this run was cut.
     pub set: Option<Numbers>,
-    /// If a search met more states than it may: a number K such that no set of at most K attempts has a run that leaks, panics or is cut.
-    /// Otherwise `None`.
+    /// `Some` exactly if a search met more states than are allowed. Then no set of at most this many attempts has a run that leaks, panics
+    /// or is cut.
     pub fine: Option<u32>,
 }
 
-/// The number of a set's only attempt; 0 if the set is empty, and `None` if it has more than one attempt.
+/// The number of a set's only attempt; 0 if the set is empty, and `None` if the set has more than one attempt.
 pub fn single_of(numbers: &Numbers) -> Option<u32>
     ensures { result ≡ single_of numbers.now }
 {
@@ -101,7 +103,7 @@ impl ReportValues {
         }
     }
 
-    /// The values of the report on a run that was cut, in which the attempts of a set fail.
+    /// The values of the report on a run in which the attempts of a set fail, and which was cut.
     pub fn of_cut_set(numbers: Numbers) -> ReportValues
         ensures { result ≡ cut_set_values numbers }
     {
@@ -114,7 +116,7 @@ impl ReportValues {
         }
     }
 
-    /// The values of a search that met more states than it may. No set of at most `fine` attempts has a run that leaks, panics or is cut.
+    /// The values of a search that met too many states. No set of at most `fine` attempts has a run that leaks, panics or is cut.
     pub fn of_many_states(fine: u32) -> ReportValues
         ensures { result ≡ many_states_values fine }
     {
@@ -124,7 +126,7 @@ impl ReportValues {
         }
     }
 
-    /// The values of one run, also of a cut one.
+    /// The values of one run, which may have been cut.
     pub fn of_run(run: &RunResult) -> ReportValues
         ensures { result ≡ run_values run.now }
     {
@@ -182,7 +184,7 @@ impl ReportValues {
         }
     }
 
-    /// The values of a check: the values of its sizing, and those of the sweep after it.
+    /// The values of a check: the values of its sizing, and the values of the sweep after the sizing.
     pub fn of_both(size: ReportValues, sweep: ReportValues) -> ReportValues
         ensures { result ≡ both_values size sweep }
     {

@@ -1,5 +1,5 @@
-//! The text of a run, line by line. What these lines say is decided here alone. Which runs are reported, and what the program answers if no
-//! run is reported, is decided elsewhere.
+//! The text of a run, line by line. Only this module decides what these lines say. Other modules decide which runs are reported, and what
+//! the program writes if no run is reported.
 
 ghost use Rattle.std.specs.Prelude.{◌≡◌, ◌++◌, OnOk};
 ghost use Rattle.std.specs.List.{flat_map};

@@ -1,5 +1,5 @@
-//! The reports of `sweep` and `check`, by what they search for: the text, its values, and the exit status. The reports of the single
-//! searches are in `tasks`, `parts`, `sets` and `every_set`. Nothing is read or written here.
+//! The reports of `sweep` and `check`, for each kind of search: the text, its values, and the exit status. The reports of the searches
+//! themselves are in `tasks`, `parts`, `sets` and `every_set`. Nothing is read or written here.
 
 ghost use Rattle.std.specs.Prelude.{◌≡◌, ◌≤◌, IfOk, IsTrue};
 ghost use Rattle.wb_tree.specs.Sound.{is_script};
@@ -67,8 +67,8 @@ pub fn search_report<P: Progress>(
     }
 }
 
-/// The report of a check: the required length, and then what is found among all failures. If the script wasn't sized because a run was cut,
-/// only the line of that cut.
+/// The report of a check: the required length, and then what is found among all failures. If the script wasn't sized because its run was
+/// cut, the report has only the line of this run.
 pub fn check_report<P: Progress>(
     alloc: Global,
     script: &Script,
@@ -91,7 +91,7 @@ pub fn check_report<P: Progress>(
     }
 }
 
-/// The same report for any search. The search makes a run without failure of its own.
+/// The report of a check, for any search. The search makes its own run without failure.
 fn check_after_size<P: Progress>(
     alloc: Global,
     script: &Script,
@@ -108,7 +108,7 @@ fn check_after_size<P: Progress>(
     ensures { IfOk result (λ r. IsCheckReport search script.now budget shape
         r.text.items r.values r.status) }
 {
-    let mut report = size_report(alloc, script, budget, shape)?;
+    let mut report = size_report(alloc, script, budget, shape, progress)?;
     if report.status == CUT {
         return Ok(report);
     }
@@ -119,7 +119,7 @@ fn check_after_size<P: Progress>(
     Ok(report)
 }
 
-/// The same report for a search for the least of these failures. The run that the script is sized by is also the sweep's run without
+/// The report of a check that searches for the least of these failures. The run that sizes the script is also the sweep's run without
 /// failure.
 fn check_least<P: Progress>(
     alloc: Global,
@@ -136,7 +136,7 @@ fn check_least<P: Progress>(
     ensures { IfOk result (λ r. IsCheckReport (Search.Least failures) script.now budget shape
         r.text.items r.values r.status) }
 {
-    let sized = match size_by_run(alloc, script, budget, shape) {
+    let sized = match size_by_run(alloc, script, budget, shape, progress) {
         Ok(sized) => sized,
         Err(fault) => return report_of_size_fault(alloc, fault),
     };

@@ -19,9 +19,9 @@ use wb_runs::part::Part;
 use wb_sweep::{FoundSet, Progress, SetFault, SetSweep, sweep_sets};
 use wb_tree::script::Script;
 
-/// The report of a sweep over the sets of at most `most` attempts whose least number is in the part: the least set whose run leaks or
-/// panics, or that there is none; or the line of a run that was cut. `Part::WHOLE` has the number of each attempt that a run can make, and
-/// so it has all sets.
+/// The report of a sweep over the sets of at most `most` attempts whose least number is in the part. The report names the least set whose
+/// run leaks or panics, or says that there is no such set. If the sweep ends at a run that was cut, the report has the line of this run.
+/// `Part::WHOLE` has the number of each attempt that a run can make, and so it has all sets.
 pub fn sets_report<P: Progress>(
     alloc: Global,
     script: &Script,
@@ -59,7 +59,7 @@ fn swept_report(alloc: Global, most: u32, sweep: SetSweep) -> Result<Report, NoM
     Ok(report_with(text, sweep))
 }
 
-/// The report of what a sweep over sets found. `text` is its text.
+/// The report of what a sweep over sets found. `text` is the report's text.
 pub fn report_with(text: Vec<u8>, sweep: SetSweep) -> Report
     ensures text { result.text ≡ text }
     ensures values { result.values ≡ swept_values sweep }
@@ -80,7 +80,7 @@ pub fn report_with(text: Vec<u8>, sweep: SetSweep) -> Report
     }
 }
 
-/// The report of a run that was cut, in which these attempts fail.
+/// The report of a run in which these attempts fail, and which was cut.
 pub fn cut_set_report(alloc: Global, numbers: Numbers, why: Why) -> Result<Report, NoMemory>
     ensures text { IfOk result (λ r. r.text.items ≡ cut_set_line numbers why) }
     ensures values { IfOk result (λ r. r.values ≡ cut_set_values numbers) }

@@ -1,5 +1,5 @@
-//! The text of what a sweep over sets of attempts finds, line by line. What the line of a set says is decided here alone, except that a set
-//! of at most one attempt has the line of a single number (`numbers_text`).
+//! The text of what a sweep over sets of attempts finds, line by line. Only this module decides what the line of a set says, except that
+//! a set of at most one attempt has the line of a single number (`numbers_text`).
 
 ghost use Rattle.std.specs.Prelude.{◌≡◌, ◌++◌, OnOk};
 ghost use Rattle.workbench.specs.SetsReport.{cut_several_line, cut_set_line, found_set_text, no_set_line, set_line};
@@ -16,8 +16,8 @@ use wb_meaning::run::Why;
 use wb_runs::failures::Failing;
 use wb_sweep::{FoundSet, SetSweep};
 
-/// Appends the number of attempts of the run without failure, and then the set that was found and its run, or a line that there is no such
-/// set of at most `most` attempts.
+/// Appends how many attempts the run without failure makes. Then appends the set that was found and its run, or a line that says that no
+/// set of at most `most` attempts was found.
 pub fn put_sets(text: &mut Vec<u8>, most: u32, sweep: &SetSweep) -> Result<(), NoMemory>
     ensures { OnOk result (text.new.items ≡ text.old.items ++ sets_text most sweep.now) }
 {
@@ -72,7 +72,7 @@ fn put_number(text: &mut Vec<u8>, number: u32) -> Result<(), NoMemory>
     or_no_memory(write!(text, " {number}"))
 }
 
-/// Appends the line of a run that was cut, in which these attempts fail. If they are at most one, it is the line of a single number.
+/// Appends the line of a run in which these attempts fail, and which was cut. For at most one attempt, it is the line of a single number.
 pub fn put_cut_set(text: &mut Vec<u8>, numbers: &Numbers, why: Why) -> Result<(), NoMemory>
     ensures { OnOk result (text.new.items ≡ text.old.items ++ cut_set_line numbers.now why) }
 {

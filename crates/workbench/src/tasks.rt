@@ -1,5 +1,5 @@
-//! The report of each task on a script: the text, its values, and the exit status. Nothing is read or written here. `searches`
-//! distinguishes what `sweep` and `check` search for.
+//! The report of each task on a script: the text, its values, and the exit status. Nothing is read or written here. For `sweep` and
+//! `check`, `searches` chooses the report by what is searched for.
 
 ghost use Rattle.std.specs.Prelude.{◌≡◌, ◌≢◌, ◌≤◌, ℕ, IfOk, IsTrue, if◌then◌else◌};
 ghost use Rattle.wb_runs.specs.declared.failures.Failing.TheVariants.{Number};
@@ -29,16 +29,17 @@ use wb_basics::memory::NoMemory;
 use wb_command_line::command::{Command, Task};
 use wb_heap_model::heap::{Rule, Shape};
 use wb_lengths::lengths;
-use wb_machine::RunFault;
+use wb_machine::{RunFault, run_reporting};
 use wb_meaning::run::Outcome;
 use wb_runs::failures::{Failing, Failures};
+use wb_size::SizeFault;
+use wb_size::sized_run::{SizedRun, size_by_run};
 use wb_size::sizing::Sizing;
-use wb_size::{SizeFault, size};
 use wb_sweep::{Progress, Sweep, SweepFault, sweep};
 use wb_tree::script::Script;
 
-/// Returns the report of the command's task on a script. The only error is that memory ran out. `progress` is notified of how far a sweep,
-/// or the search through all lengths, has come.
+/// Returns the report of the command's task on a script. The only error is that memory ran out. `progress` is notified of how far a run, a
+/// sweep, or the search through all lengths has come.
 pub fn carry_out<P: Progress>(
     alloc: Global,
     command: &Command,
@@ -52,8 +53,8 @@ pub fn carry_out<P: Progress>(
 {
     let (budget, shape) = (command.budget, command.shape);
     match &command.task {
-        Task::Run(rule) => run_report(alloc, script, rule.try_copy()?, budget, shape),
-        Task::Size => size_report(alloc, script, budget, shape),
+        Task::Run(rule) => run_report(alloc, script, rule.try_copy()?, budget, shape, progress),
+        Task::Size => size_report(alloc, script, budget, shape, progress),
         Task::Lengths => lengths_report(alloc, script, budget, shape, progress),
         Task::Sweep(search, part) => {
             search_report(alloc, script, *search, *part, budget, shape, progress)
@@ -63,12 +64,13 @@ pub fn carry_out<P: Progress>(
 }
 
 /// The report of one run.
-fn run_report(
+fn run_report<P: Progress>(
     alloc: Global,
     script: &Script,
     rule: Rule,
     budget: u32,
     shape: Shape,
+    progress: &mut P,
 ) -> Result<Report, NoMemory>
     requires script { IsTrue (is_script script.now) }
     requires least { 1 ≤ budget }
@@ -77,7 +79,10 @@ fn run_report(
     ensures { IfOk result (λ r. IsRunReport (run script.now rule budget shape)
         r.text.items r.values r.status) }
 {
-    match wb_machine::run(alloc, script, rule, budget, shape) {
+    progress.begin_run();
+    let ran = run_reporting(alloc, script, rule, budget, shape, progress);
+    progress.end();
+    match ran {
         Ok(run) => {
             let mut text = Vec::new(alloc);
             put_run(&mut text, &run)?;
@@ -93,7 +98,7 @@ fn run_report(
     }
 }
 
-/// The status of the report of one run: 1 if the run leaked or panicked, 3 if it was cut, and otherwise 0.
+/// The status of the report of one run: 1 if the run leaked or panicked, 3 if the run was cut, and 0 if the run is fine.
 fn status_of(outcome: &Outcome) -> u8
     ensures { result ≡ outcome_status outcome.now }
 {
@@ -105,12 +110,13 @@ fn status_of(outcome: &Outcome) -> u8
     }
 }
 
-/// The report of a sizing: how long the heap must be, or the line of a run that was cut.
-pub fn size_report(
+/// The report of a sizing: how long the heap must be. If the run was cut, the report has the line of this run instead.
+pub fn size_report<P: Progress>(
     alloc: Global,
     script: &Script,
     budget: u32,
     shape: Shape,
+    progress: &mut P,
 ) -> Result<Report, NoMemory>
     requires script { IsTrue (is_script script.now) }
     requires least { 1 ≤ budget }
@@ -119,13 +125,20 @@ pub fn size_report(
     ensures { IfOk result (λ r. IsSizeReport script.now budget shape
         r.text.items r.values r.status) }
 {
-    match size(alloc, script, budget, shape) {
-        Ok(sizing) => report_of_size(alloc, sizing),
+    match size_by_run(alloc, script, budget, shape, progress) {
+        Ok(
+            SizedRun {
+                sizing,
+                outcome: _,
+                attempts: _,
+                steps: _,
+            },
+        ) => report_of_size(alloc, sizing),
         Err(fault) => report_of_size_fault(alloc, fault),
     }
 }
 
-/// The report of a sizing that was finished: the required length, and what shorter heaps deny first.
+/// The report of a sizing that was finished: the required length, and what shorter heaps refuse first.
 pub fn report_of_size(alloc: Global, sizing: Sizing) -> Result<Report, NoMemory>
     ensures { IfOk result (λ r. (r.text.items ≡ size_text sizing.required sizing.rises)
         × (r.values ≡ size_values sizing.required sizing.rises) × (r.status ≡ 0)) }
@@ -139,7 +152,7 @@ pub fn report_of_size(alloc: Global, sizing: Sizing) -> Result<Report, NoMemory>
     })
 }
 
-/// The report on a script that wasn't sized because its run was cut. Its text is the line of that run.
+/// The report on a script that wasn't sized because its run was cut. The report's text is the line of this run.
 pub fn report_of_size_fault(alloc: Global, fault: SizeFault) -> Result<Report, NoMemory>
     requires shape { fault ≢ SizeFault.BadShape }
     ensures { IfOk result (λ r. (number : ℕ) × (why : Why) × (fault ≡ SizeFault.Cut number why)
@@ -192,15 +205,15 @@ fn lengths_report<P: Progress>(
     }
 }
 
-/// The status if no length's run leaks or panics: 3 if the run of some length is cut, and otherwise 0.
+/// The status if no length's run leaks or panics: 3 if the run of some length is cut, and 0 if no length's run is cut.
 fn fine_status(is_cut: bool) -> u8
     ensures { result ≡ if is_cut then 3 else 0 }
 {
     if is_cut { CUT } else { NOTHING_FOUND }
 }
 
-/// The report of a sweep over these failures: the least whose run leaks or panics, or that there is none; or the line of a run that was
-/// cut.
+/// The report of a sweep over these failures. The report names the least failure whose run leaks or panics, or says that there is none. If
+/// the sweep ends at a run that was cut, the report has the line of this run.
 pub fn sweep_report<P: Progress>(
     alloc: Global,
     script: &Script,
@@ -257,7 +270,7 @@ pub fn report_of_sweep(
     }
 }
 
-/// The report of a run that was cut under a failure. `text` is the line of that run.
+/// The report of a run that was cut under a failure. `text` is the line of this run.
 pub fn cut_report(text: Vec<u8>, at: Failing) -> Report
     ensures text { result.text ≡ text }
     ensures values { result.values ≡ cut_values at }

@@ -1,5 +1,5 @@
-//! The options of `sweep` and `check` that say which failures are tried, and whether the report lists what is found or names only the
-//! least. The options that ask for sets of attempts are in `sets`.
+//! The options of `sweep` and `check` that say which failures are tried, and whether the report lists all that is found or names only the
+//! least failure. The options that ask for sets of attempts are in `sets`.
 
 ghost use Rattle.std.specs.Prelude.{◌≡◌, IfOk, false};
 ghost use Rattle.clap.specs.Words.{app_of, rule_of};
@@ -13,7 +13,7 @@ use crate::command_line::sets::with_sets;
 use clap::{Arg, ArgAction};
 use std::alloc::{AllocError, Global};
 
-/// The subcommand with the options that say which failures are tried, those of `sets` among them, and whether the report lists what is
+/// The subcommand with the options that say which failures are tried, including the options of `sets`, and whether the report lists what is
 /// found.
 pub(super) fn with_failures<'a>(
     alloc: Global,
@@ -33,7 +33,7 @@ pub(super) fn with_failures<'a>(
     with_sets(alloc, line, help)
 }
 
-/// The flag `--every`, which asks to try rates. Its id isn't `every`, which is the id of an option of `run` that takes a number.
+/// The flag `--every`, which asks to try rates. The flag's id isn't `every`, because an option of `run` that takes a number has this id.
 fn rates<'a>(alloc: Global) -> Arg<'a>
     ensures rule { rule_of result ≡ rates_flag }
     ensures own { result.global ≡ false }
@@ -83,7 +83,7 @@ fn all<'a>(alloc: Global) -> Arg<'a>
         .help("Tells of every number whose run leaks, panics or is cut, and not of the least alone")
 }
 
-/// The flag that asks for a list of all numbers, with how the run of each ends.
+/// The flag that asks for a list of all numbers, with how the run of each number ends.
 fn ends<'a>(alloc: Global) -> Arg<'a>
     ensures rule { rule_of result ≡ ends_flag }
     ensures own { result.global ≡ false }

@@ -1,4 +1,4 @@
-//! The options of `run` that ask for the run's steps, `--follow`, `--follow-steps` and `--follow-around`, and what they spell.
+//! The options of `run` that ask for the run's steps: `--follow`, `--follow-steps` and `--follow-around`. Also what these options spell.
 
 ghost use Rattle.std.specs.Prelude.{◌≡◌, ◌≤◌, IfOk, IfSome, codes, false};
 ghost use Rattle.clap.specs.Words.{app_of, found_of, rows_of, rule_of};
@@ -13,8 +13,8 @@ use clap::{Arg, ArgAction, ArgMatches};
 use std::alloc::{AllocError, Global};
 use wb_basics::limits::CEILING;
 
-/// The default of `--follow-steps`: how many of the first steps are followed, and how many of the last; or how many before an attempt, and
-/// how many after it.
+/// The default of `--follow-steps`: how many of the first steps, and how many of the last steps, are followed. With `--follow-around`, it
+/// is how many steps before an attempt, and how many after it, are followed.
 pub const DEFAULT_FOLLOWED: u32 = 1000;
 
 /// The greatest value of `--follow-steps`.
@@ -68,8 +68,8 @@ fn follow<'a>(alloc: Global) -> Arg<'a>
         .help("Writes each step of the run to standard error, with what it does")
 }
 
-/// How many of the run's first steps the options ask for, which is also how many of its last; with `--follow-around`, how many before the
-/// attempt, which is also how many after it. `None` without these two flags, even if `--follow-steps` is given.
+/// How many of the run's first steps, and how many of its last steps, the options ask for. With `--follow-around`, this is how many steps
+/// before the attempt, and how many after it. Without `--follow` and `--follow-around` it is `None`, even if `--follow-steps` is given.
 pub(super) fn follow_in(options: &ArgMatches) -> Option<u32>
     requires { RowsPass joined_level.rules (rows_of (found_of options.now)) }
     ensures is { result ≡ follow_of (rows_of (found_of options.now)) }
@@ -84,7 +84,7 @@ pub(super) fn follow_in(options: &ArgMatches) -> Option<u32>
     }
 }
 
-/// The number of the attempt about which the options ask for steps; `None` if they name none.
+/// The number of the attempt around which the options ask for steps; `None` if the options name no attempt.
 pub(super) fn around_in(options: &ArgMatches) -> Option<u32>
     requires { RowsPass joined_level.rules (rows_of (found_of options.now)) }
     ensures is { result ≡ around_of (rows_of (found_of options.now)) }

@@ -1,4 +1,4 @@
-//! What `--help` says at its top: what a command does, an example, and the exit statuses.
+//! What the output of `--help` begins with: what a command does, an example, and the exit statuses.
 
 /// The top of the program's own help.
 pub(crate) const BEGIN: &str = "Runs scripts against a simulated heap whose allocations may fail

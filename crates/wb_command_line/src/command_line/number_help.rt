@@ -1,5 +1,5 @@
-//! The help on the options that take a number or a list of numbers, and what `clap` parses such a number with. The options themselves are
-//! in `parser`, `sets`, `set_list` and `following`.
+//! The help on the options that take a number or a list of numbers, and the parser that `clap` uses for such a number. The options
+//! themselves are in `parser`, `sets`, `set_list` and `following`.
 
 ghost use Rattle.std.specs.Prelude.{◌≡◌, pos};
 
@@ -15,7 +15,7 @@ use wb_basics::limits::{
     LARGEST_STEP, SMALLEST_STEP,
 };
 
-/// The help on the options that take a number or a list of numbers. Each text has the bounds of the numbers, and their default if there is
+/// The help on the options that take a number or a list of numbers. Each text has the bounds of the numbers, and the default if there is
 /// one.
 #[derive(Drop)]
 pub(crate) struct NumberHelp {

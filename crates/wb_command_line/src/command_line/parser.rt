@@ -18,21 +18,22 @@ use clap::{Arg, ArgAction};
 use std::alloc::{AllocError, Global};
 use wb_basics::limits::{CEILING, LARGEST_BUDGET, LARGEST_MINIMUM, LARGEST_STEP, SMALLEST_STEP};
 
-/// Which options a subcommand has, beside those that all subcommands have. `Failures` and `Neither` have a table, and so `--brief`.
+/// Which options a subcommand has, besides the options that all subcommands have. Subcommands with `Failures` or `Neither` report a table,
+/// and so they have `--brief`.
 #[derive(Clone, Copy)]
 enum Takes {
-    /// The options that give a rule: a limit, the number of an attempt that fails, and of a second one, a rate, the number of the attempt
-    /// from which on all fail, or a set; and the options that ask for the steps of the run.
+    /// The options that give a rule, and the options that ask for the steps of the run. A rule is a limit, a rate, a set, or the number of
+    /// the attempt that fails or from which on all attempts fail. If only one attempt fails, the number of a second one may be added.
     Rule,
     /// The options that ask to try more than single attempts: rates, failures that persist, pairs or sets of attempts; and the flags that
     /// ask for a list.
     Failures,
-    /// The options of `Failures`, and those for the first and the last number that is tried.
+    /// The options of `Failures`, and the options for the first and the last number that is tried.
     Part,
     Neither,
 }
 
-/// A subcommand, and what its help says of it.
+/// A subcommand, and what its help says about it.
 #[derive(Clone, Copy)]
 struct Level {
     name: &'static str,
@@ -40,7 +41,7 @@ struct Level {
     takes: Takes,
 }
 
-/// An option that takes a number, and what its help says of it.
+/// An option that takes a number, and what the help says about it.
 #[derive(Clone, Copy)]
 pub(super) struct NumberOption<'a> {
     pub(super) name: &'a str,
@@ -147,7 +148,7 @@ fn subcommand<'a>(
     with_shared_options(alloc, line, help)
 }
 
-/// The subcommand with the options that it has beside those that all subcommands have.
+/// The subcommand with the options of its own, besides the options that all subcommands have.
 fn with_own_options<'a>(
     alloc: Global,
     line: clap::Command<'a>,

@@ -1,4 +1,4 @@
-//! The options of all subcommands that say how the report is written, that no progress is shown, and what is written beside the report.
+//! The options of all subcommands that say how the report is written, that no progress is shown, and what is written besides the report.
 
 ghost use Rattle.std.specs.Prelude.{◌≡◌, IfOk, false};
 ghost use Rattle.clap.specs.Words.{app_of, rule_of};
@@ -10,7 +10,7 @@ use crate::command_line::parser::with_argument;
 use clap::{Arg, ArgAction};
 use std::alloc::{AllocError, Global};
 
-/// The subcommand with the options that say how a report is written, that no progress is shown, and what is written beside the report.
+/// The subcommand with the options that say how a report is written, that no progress is shown, and what is written besides the report.
 pub(super) fn with_report_options<'a>(
     alloc: Global,
     line: clap::Command<'a>,
@@ -24,7 +24,7 @@ pub(super) fn with_report_options<'a>(
     with_files(alloc, with_argument(line, quiet(alloc))?)
 }
 
-/// The subcommand with the options that name files for what is written beside the report.
+/// The subcommand with the options that name files for what is written besides the report.
 fn with_files<'a>(alloc: Global, line: clap::Command<'a>) -> Result<clap::Command<'a>, AllocError>
     ensures added { IfOk result
         (λ more. app_of more ≡ with_rules (app_of line.entry) file_options) }

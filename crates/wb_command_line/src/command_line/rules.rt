@@ -34,7 +34,7 @@ pub(super) fn rule_in(alloc: Global, options: &ArgMatches) -> Result<Rule, Comma
     }
 }
 
-/// Returns the rule that the options spell without regard to `--also`. The errors are `Usage`, `Both` and `NoMemory`.
+/// Returns the rule that the options spell if `--also` is ignored. The errors are `Usage`, `Both` and `NoMemory`.
 fn first_rule_in(alloc: Global, options: &ArgMatches) -> Result<Rule, CommandFault>
     requires { RowsPass joined_level.rules (rows_of (found_of options.now)) }
     ensures ok { IfOk result (λ rule. rule ≡ first_rule_of (rows_of (found_of options.now))) }
@@ -51,7 +51,7 @@ fn first_rule_in(alloc: Global, options: &ArgMatches) -> Result<Rule, CommandFau
     }
 }
 
-/// Returns the rule by which the attempts of a set fail. The error is `Both` if the other options give a rule too.
+/// Returns the rule under which the attempts of a set fail. The error is `Both` if the other options give a rule too.
 fn with_set(other: Rule, numbers: Numbers) -> Result<Rule, CommandFault>
     ensures ok { IfOk result (λ rule. rule ≡ Rule.Set numbers) }
     ensures alone { OnOk result (other ≡ Rule.Unlimited) }
@@ -64,7 +64,7 @@ fn with_set(other: Rule, numbers: Numbers) -> Result<Rule, CommandFault>
     }
 }
 
-/// Returns the rule that the options spell without regard to `--also` and `--set`. The only error is `Both`.
+/// Returns the rule that the options spell if `--also` and `--set` are ignored. The only error is `Both`.
 fn numbered_rule_in(options: &ArgMatches) -> Result<Rule, CommandFault>
     requires { RowsPass joined_level.rules (rows_of (found_of options.now)) }
     ensures ok { IfOk result (λ rule. rule ≡ numbered_rule_of (rows_of (found_of options.now))) }
@@ -80,7 +80,8 @@ fn numbered_rule_in(options: &ArgMatches) -> Result<Rule, CommandFault>
     rule_by(limit, number, rate, first)
 }
 
-/// Returns the rule of the one number that is given, or `Unlimited` if none is. The error is `Both` if several are given.
+/// Returns the rule of the only number that is given, or `Unlimited` if no number is given. The error is `Both` if several numbers are
+/// given.
 fn rule_by(
     limit: Option<u32>,
     number: Option<u32>,
@@ -112,8 +113,8 @@ fn rule_by(
     }
 }
 
-/// Returns the rule by which two attempts fail: the one that `first` makes fail, and the one with the number `second`. The error is `Also`
-/// if `first` isn't the rule of a single attempt, or if its number is 0 or not less than `second`.
+/// Returns the rule under which two attempts fail: the attempt that `first` makes fail, and the attempt with the number `second`. The error
+/// is `Also` if `first` isn't the rule of a single attempt, or if the number of `first` is 0 or not less than `second`.
 fn with_second(first: Rule, second: u32) -> Result<Rule, CommandFault>
     ensures ok { IfOk result (IsPairOf first second) }
     ensures fault { IfErr result (λ fault. fault ≡ CommandFault.Also) }

@@ -1,5 +1,5 @@
-//! What the options of `sweep` and `check` ask to search for: which failures, and whether all that are found or the least. How many
-//! attempts fail together, and how many states are met, is read in `sets`.
+//! What the options of `sweep` and `check` ask to search for: which failures, and whether all that are found or only the least. The file
+//! `sets` reads how many attempts fail together, and how many states are met.
 
 ghost use Rattle.std.specs.Prelude.{◌≡◌, ◌≤◌, ◌&&◌, ◌||◌, IfErr, IfOk, IfSome, IsTrue, OnErr, OnOk, codes, false, is_some, true};
 ghost use Rattle.clap.specs.Words.{found_of, rows_of};
@@ -32,8 +32,8 @@ pub(super) fn search_in(options: &ArgMatches) -> Result<Search, CommandFault>
     Ok(search_by(states, most, single))
 }
 
-/// The search if neither `--failures` nor `--sets` is given: for the ends of all runs with `ends`, for all failures that are found with
-/// `all`, else for the least.
+/// The search if neither `--failures` nor `--sets` is given. The search is for the ends of all runs if `ends` is set, for all failures that
+/// are found if `all` is set, and otherwise for the least failure.
 fn search_listed(all: bool, ends: bool, failures: Failures) -> Search
     ensures is { result ≡ search_listed all ends failures }
     ensures range { IsTrue (is_search_in_range result) }
@@ -45,8 +45,8 @@ fn search_listed(all: bool, ends: bool, failures: Failures) -> Search
     }
 }
 
-/// The search that is asked for: over all sets if `states` says how many states may be met, over sets of up to `most` attempts if that is
-/// given, else `single`.
+/// The search that is asked for. The search is over all sets if `states` is given, which says how many states may be met. If only `most` is
+/// given, the search is over sets of up to `most` attempts; if neither is given, it is `single`.
 fn search_by(states: Option<u32>, most: Option<u32>, single: Search) -> Search
     requires most { IfSome most (λ k. (1 ≤ k) × (k ≤ MOST_TOGETHER)) }
     requires states { IfSome states (λ n. (1 ≤ n) × (n ≤ MOST_STATES)) }
@@ -62,7 +62,7 @@ fn search_by(states: Option<u32>, most: Option<u32>, single: Search) -> Search
 }
 
 /// Returns the failures that the options of `sweep` and `check` ask to try. The only error is `Both`. `is_of_few` says whether `--failures`
-/// is given, and `is_of_every_set` whether `--sets` is.
+/// is given, and `is_of_every_set` says whether `--sets` is given.
 fn failures_in(
     options: &ArgMatches,
     is_of_few: bool,
@@ -94,7 +94,7 @@ fn failures_in(
 }
 
 /// Returns the failures that these flags ask to try. The error is `Both` if flags don't go together: `--failures` with `--sets`, `--all`
-/// with `--ends`, or those that `failures_by` finds.
+/// with `--ends`, or flags that `failures_by` refuses.
 fn failures_or_sets(
     rates: bool,
     persistent: bool,
@@ -122,7 +122,7 @@ fn failures_or_sets(
 }
 
 /// Returns the failures that these flags ask to try. The error is `Both` if flags don't go together. `is_listed` says whether a list is
-/// asked for, and `is_of_sets` whether sets are, which are tried after single failures.
+/// asked for. `is_of_sets` says whether sets are asked for, which are tried after single failures.
 fn failures_by(
     rates: bool,
     persistent: bool,
@@ -162,7 +162,7 @@ fn all_in(options: &ArgMatches) -> bool
     options.get_flag("all")
 }
 
-/// Whether the options ask for a list of all numbers, with how the run of each ends.
+/// Whether the options ask for a list of all numbers, with how the run of each number ends.
 fn ends_in(options: &ArgMatches) -> bool
     requires { RowsPass joined_level.rules (rows_of (found_of options.now)) }
     ensures { result ≡ flag_of (codes "ends") (rows_of (found_of options.now)) }

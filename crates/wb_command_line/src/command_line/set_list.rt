@@ -16,10 +16,10 @@ use std::alloc::{AllocError, Global};
 use wb_basics::limits::CEILING;
 use wb_heap_model::heap::Numbers;
 
-/// How many numbers a list may have at most.
+/// The most numbers that a list may have.
 pub(super) const MOST_NUMBERS: usize = 256;
 
-/// The option itself. `clap` takes any text as its value.
+/// The option `--set`. `clap` takes any text as its value.
 pub(super) fn set_argument<'a>(alloc: Global, help: &'a str) -> Arg<'a>
     ensures rule { rule_of result ≡ set_option }
     ensures own { result.global ≡ false }
@@ -30,8 +30,8 @@ pub(super) fn set_argument<'a>(alloc: Global, help: &'a str) -> Arg<'a>
         .help(help)
 }
 
-/// Returns the numbers of the set that the options give; `None` if they give none. The errors are `Usage`, if the set's text is no list,
-/// and `NoMemory`.
+/// Returns the numbers of the set that the options give; `None` if the options give no set. The errors are `Usage`, if the set's text is no
+/// list, and `NoMemory`.
 pub(super) fn set_in(alloc: Global, options: &ArgMatches) -> Result<Option<Numbers>, CommandFault>
     ensures ok { IfOk result (λ set. set ≡ set_of (rows_of (found_of options.now))) }
     ensures range { IfOk result (λ set. IfSome set (λ numbers. are_of_set numbers ≡ true)) }
@@ -56,8 +56,8 @@ fn list_of(alloc: Global, text: &str) -> Result<Numbers, CommandFault>
     }
 }
 
-/// Returns what `clap` would say of a text that is no list, in the words that it has for other values. The call fails only if memory ran
-/// out.
+/// Returns what `clap` would say about a text that is no list, worded as `clap` words its errors for other values. The call fails only if
+/// memory ran out.
 fn no_list(alloc: Global, text: &str) -> Result<Error, AllocError>
     ensures { IfOk result (λ error. kind_of error ≡ ErrorKind.ValueValidation) }
 {
@@ -80,8 +80,8 @@ fn numbers_listed(alloc: Global, text: &str) -> Result<Option<Numbers>, AllocErr
     }
 }
 
-/// Returns the numbers that these texts spell; `None` unless each text has digits alone, and the numbers ascend and are from 1 to
-/// `CEILING`. The only error is that memory ran out.
+/// Returns the numbers that these texts spell. The result is `None` unless each text has only digits, and the numbers ascend and are from 1
+/// to `CEILING`. The only error is that memory ran out.
 fn numbers_ascending(alloc: Global, texts: &[&str]) -> Result<Option<Numbers>, AllocError>
     ensures { IfOk result
         (λ numbers. numbers ≡ ascending_in (map (λ text. text.now) texts.now)) }
@@ -100,7 +100,8 @@ fn numbers_ascending(alloc: Global, texts: &[&str]) -> Result<Option<Numbers>, A
     Ok(Some(numbers))
 }
 
-/// Returns the number of a text of digits alone, if it is greater than `last` and at most `CEILING`; else `None`.
+/// Returns the number that a text of only digits spells, if the number is greater than `last` and at most `CEILING`; otherwise returns
+/// `None`.
 fn number_after(last: u32, text: &str) -> Option<u32>
     ensures { result ≡ if is_next last text.now then Some (digits_value 10 text.now) else None }
 {
@@ -110,7 +111,8 @@ fn number_after(last: u32, text: &str) -> Option<u32>
     }
 }
 
-/// Returns the number of a text of digits alone, if it is less than 2^32; `None` for any other text, also for digits after a plus.
+/// Returns the number that a text of only digits spells, if the number is less than 2^32. Returns `None` for any other text, even for
+/// digits after a plus.
 fn number_of_digits(text: &str) -> Option<u32>
     ensures { result ≡ if is_of_digits text.now && nat_lt (digits_value 10 text.now) (2 ^ 32)
         then Some (digits_value 10 text.now) else None }

@@ -87,7 +87,7 @@ fn sets<'a>(alloc: Global) -> Arg<'a>
         )
 }
 
-/// The value of `--failures`, which is how many attempts fail together at most; `None` if the option isn't given.
+/// The value of `--failures`, which is the most attempts that fail together; `None` if the option isn't given.
 pub(super) fn most_in(options: &ArgMatches) -> Option<u32>
     requires { RowsPass joined_level.rules (rows_of (found_of options.now)) }
     ensures is { result ≡ most_of (rows_of (found_of options.now)) }
@@ -96,7 +96,7 @@ pub(super) fn most_in(options: &ArgMatches) -> Option<u32>
     options.get_one("failures")
 }
 
-/// How many states the search over all sets may meet; `None` without `--sets`, even if `--states` is given.
+/// How many states the search over all sets may meet. Without `--sets` it is `None`, even if `--states` is given.
 pub(super) fn states_in(options: &ArgMatches) -> Option<u32>
     requires { RowsPass joined_level.rules (rows_of (found_of options.now)) }
     ensures is { result ≡ states_of (rows_of (found_of options.now)) }

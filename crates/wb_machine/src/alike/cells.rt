@@ -1,5 +1,5 @@
-//! Cells, and items of the cleanup stack, of two runs that are the same except for allocation numbers. Cells are compared in order of
-//! place, and the comparison ends at the first difference.
+//! Whether the cells of two runs, and the items of their cleanup stacks, are the same except for allocation numbers. Cells are compared in
+//! order of place, up to the first difference.
 
 ghost use Rattle.std.specs.Prelude.{◌≡◌, ◌+◌, ◌^◌, ◌<◌, ℕ, List, true, Some, length, slice_index, IfSome, IsSome, OnSome};
 ghost use Rattle.wb_heap_model.specs.CellRow.{payload_of};
@@ -27,7 +27,7 @@ fn same_header(names: &mut Names, header: Header, other: Header) -> bool
         && names.relate(header.number, other.number)
 }
 
-/// The pointer in two words of a payload: its place is the word `at`, and its number the next one.
+/// The pointer in two words of a payload: the word `at` is the pointer's place, and the next word is its allocation number.
 fn pointer_at(heap: &DebugHeap, ptr: Ptr, at: u32) -> Ptr
     requires within { at + 1 < length (payload_of ptr heap.now.heap.row) }
     requires fits { at + 1 < 2 ^ 32 }
@@ -41,7 +41,7 @@ fn pointer_at(heap: &DebugHeap, ptr: Ptr, at: u32) -> Ptr
 }
 
 /// Whether two payloads of `count` words each hold the same pointers from the third word on, except for allocation numbers. A pointer takes
-/// two words. In an object these are its fields, and zeros after them.
+/// two words. In an object's payload, these pointers are the object's fields, and zeros follow the fields.
 fn same_fields(
     names: &mut Names,
     heap: &DebugHeap,
@@ -66,8 +66,8 @@ fn same_fields(
     true
 }
 
-/// Whether the payloads of two cells of this kind, at the same place and of `count` words each, hold the same except for allocation
-/// numbers. The payload of the cleanup stack's cell isn't compared here, but by `same_items`.
+/// Whether the payloads of two cells are the same, except for allocation numbers. Both cells are of this kind and at the same place, and
+/// each payload has `count` words. For two cells of cleanup stacks, the result is always `true`, because `same_items` compares the items.
 fn same_content(
     names: &mut Names,
     kind: Kind,
@@ -94,7 +94,8 @@ fn same_content(
     }
 }
 
-/// Where the first cell ends, if both cells are the same except for allocation numbers; `None` if they aren't.
+/// Compares the cells that `ptr` and `other` name. Returns where the cell of `ptr` ends if the two cells are the same except for allocation
+/// numbers. Returns `None` if they differ, or a pointer names no live cell.
 fn end_if_same(
     names: &mut Names,
     heap: &DebugHeap,

@@ -1,5 +1,5 @@
-//! Whether statements are the same. By comparing the statements that are still to do, two runs are found to be at the same place of one
-//! script.
+//! Whether statements are the same. If the statements that two runs still have to do are the same, the two runs are at the same place of
+//! one script.
 
 ghost use Rattle.std.specs.Prelude.{◌≡◌, true};
 
@@ -224,7 +224,7 @@ fn same_plain(statement: &Statement, other: &Statement) -> bool
 }
 
 /// Whether two statements with blocks inside are the same; `false` for any other statements. Blocks are compared `levels` levels deep, and
-/// deeper ones count as different.
+/// deeper blocks count as different.
 #[cycle(blocks)]
 fn same_nested(levels: u32, statement: &Statement, other: &Statement) -> bool
     ensures { result ≡ true → other.now ≡ statement.now }
@@ -257,7 +257,7 @@ fn same_nested(levels: u32, statement: &Statement, other: &Statement) -> bool
 }
 
 /// Whether two statements are the same, and on the same line of the script. Blocks inside are compared `levels` levels deep, and deeper
-/// ones count as different.
+/// blocks count as different.
 #[cycle(blocks)]
 fn same_statement(levels: u32, one: &StatementAt, other: &StatementAt) -> bool
     ensures { result ≡ true → other.now ≡ one.now }
@@ -267,7 +267,7 @@ fn same_statement(levels: u32, one: &StatementAt, other: &StatementAt) -> bool
             || same_nested(levels, &one.statement, &other.statement))
 }
 
-/// Whether two blocks are the same. The blocks inside are compared `levels` levels deep, and deeper ones count as different.
+/// Whether two blocks are the same. The blocks inside are compared `levels` levels deep, and deeper blocks count as different.
 #[cycle(blocks)]
 fn same_block(levels: u32, statements: &[StatementAt], others: &[StatementAt]) -> bool
     ensures { result ≡ true → others.now ≡ statements.now }

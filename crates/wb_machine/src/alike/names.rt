@@ -1,4 +1,4 @@
-//! Which allocation numbers of one run stand for which of another, as is found out while the two runs are compared.
+//! A map that pairs the allocation numbers of two runs while the two runs are compared.
 
 ghost use Rattle.std.specs.Prelude.{◌≡◌, ◌≤◌, [], true};
 ghost use Rattle.wb_machine.specs.Alike.{pair_of, IsGrown};
@@ -8,15 +8,15 @@ use arrayvec::ArrayVec;
 use std::marker::Model;
 use wb_heap_model::heap::Ptr;
 
-/// An allocation number of one run, and the one of the other run that stands for it.
+/// A pair of allocation numbers: `here` is a number of the one run, and `there` is a number of the other run.
 #[derive(Clone, Copy, Default)]
 pub struct Name {
     pub here: u32,
     pub there: u32,
 }
 
-/// A one-to-one map from allocation numbers of one run to those of another. Each number up to `since` stands for itself. The map asks for
-/// no memory.
+/// A one-to-one map from allocation numbers of one run to allocation numbers of another. Each number up to `since` is mapped to itself. The
+/// map asks for no memory.
 #[derive(Drop)]
 pub struct Names {
     since: u32,
@@ -24,7 +24,7 @@ pub struct Names {
     made: u32,
     /// How many attempts the other run has made.
     other_made: u32,
-    /// The pairs of numbers above `since` that were found so far. Runs in which more such numbers occur than fit here count as different.
+    /// The pairs of numbers above `since` that were found so far. Runs that need more pairs than fit here count as different.
     added: ArrayVec<Name, 64>,
 }
 
@@ -40,7 +40,7 @@ impl Model for Names {
     ghost invariant = { AreAdded };
 }
 
-/// The first pair that has `here` as its number of the one run, or `there` as its number of the other.
+/// The first pair in which the one run's number is `here`, or the other run's number is `there`; `None` if there is no such pair.
 fn pair_of(pairs: &[Name], here: u32, there: u32) -> Option<Name>
     ensures { result ≡ pair_of here there pairs.now }
 {
@@ -53,7 +53,7 @@ fn pair_of(pairs: &[Name], here: u32, there: u32) -> Option<Name>
 }
 
 impl Names {
-    /// The map in which only the numbers up to `since`, an attempt that both runs have made, stand for themselves.
+    /// The map that maps each number up to `since` to itself, and has no other pairs. Both runs have made the attempt `since`.
     pub fn new(since: u32, made: u32, other_made: u32) -> Names
         requires here { since ≤ made }
         requires there { since ≤ other_made }
@@ -68,8 +68,9 @@ impl Names {
         }
     }
 
-    /// Whether one number stands for another. Two numbers above `since`, of which neither is in a pair yet, become a pair if both runs have
-    /// made these attempts and there is room.
+    /// Whether the map maps the number `here` of the one run to the number `there` of the other run. If both numbers are above `since` and
+    /// neither number is in a pair yet, the two numbers become a pair, provided that there is room for it and that each run has made the
+    /// attempt with its own number.
     pub fn relate(&mut self, here: u32, there: u32) -> bool
         ensures related { result ≡ true → Renames self.new.names here there }
         ensures grown { IsGrown self.old self.new }
@@ -86,7 +87,8 @@ impl Names {
         self.added.try_push(Name { here, there }).is_ok()
     }
 
-    /// Whether two pointers have the same place, and their allocation numbers stand for one another, as `relate` finds out.
+    /// Whether two pointers have the same place, and `relate` maps the allocation number of the first pointer to the allocation number of
+    /// the second.
     pub fn relate_pointers(&mut self, ptr: Ptr, other: Ptr) -> bool
         ensures same { result ≡ true → IsSamePointer self.new.names ptr other }
         ensures grown { IsGrown self.old self.new }

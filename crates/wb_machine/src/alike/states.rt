@@ -1,4 +1,4 @@
-//! States of two runs that are the same except for allocation numbers.
+//! Whether the states of two runs are the same except for allocation numbers.
 
 ghost use Rattle.std.specs.Prelude.{◌≡◌, true};
 ghost use Rattle.wb_tree.specs.declared.script.Script.{Script};
@@ -12,8 +12,8 @@ use super::names::Names;
 use crate::state::State;
 
 impl State {
-    /// Whether two states have equally many items, open marks, live cells and bytes in live cells, the same setting of the script, and the
-    /// same way of choosing places. This is a quick test, made before all else is compared.
+    /// Whether two states have equally many items, open marks, live cells and bytes in live cells, the same failure setting of the script,
+    /// and the same way of choosing places. This quick test comes before all other comparisons.
     fn has_counts_of(&self, other: &State) -> bool
         ensures level { result ≡ true →
             other.now.debug.heap.level ≡ self.now.debug.heap.level }
@@ -46,8 +46,8 @@ impl State {
             && same_items(names, stack, &self.heap, other_stack, &other.heap)
     }
 
-    /// Whether the state is the same as another, except for allocation numbers. What the two runs have printed and noted, and how many
-    /// steps and attempts they have counted, isn't compared.
+    /// Whether this state is the same as another, except for allocation numbers. Printed lines, notes, and the numbers of steps and
+    /// attempts aren't compared.
     pub fn is_like(&self, names: &mut Names, other: &State) -> bool
         ensures callers { result ≡ true →
             AllBeside (IsSameValue names.new.names) self.now.callers other.now.callers }

@@ -1,4 +1,4 @@
-//! How a call begins: the body of a procedure is added, in a frame of its own.
+//! How a call begins: the body of a procedure becomes a pending piece, and gets a frame of its own.
 
 ghost use Rattle.std.specs.Prelude.{◌≡◌, ◌<◌, ◌≤◌, ℕ, None, length, IsTrue, OnOk};
 ghost use Rattle.wb_tree.specs.Sound.{is_script};

@@ -1,4 +1,4 @@
-//! How many TRAPs of a run are open, by its pending pieces. Nothing here changes the pieces.
+//! How many TRAPs of a run are open, counted from the pending pieces. No function here changes the pieces.
 
 ghost use Rattle.std.specs.Prelude.{◌≡◌};
 ghost use Rattle.wb_machine.specs.Depths.{is_trap, open_traps_in};
@@ -6,7 +6,7 @@ ghost use Rattle.wb_machine.specs.Depths.{is_trap, open_traps_in};
 use crate::control::Control;
 use crate::pieces::PendingPiece;
 
-/// Whether a piece is a TRAP of the script. `main`'s own TRAP isn't one.
+/// Whether a piece is a TRAP of the script. `main`'s own TRAP isn't a TRAP of the script.
 fn is_trap(piece: &PendingPiece) -> bool
     ensures { result ≡ is_trap piece.now }
 {

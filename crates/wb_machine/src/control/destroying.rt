@@ -1,4 +1,4 @@
-//! Steps that destroy items of the cleanup stack and objects, and the bodies that run for them.
+//! Steps that destroy objects and items of the cleanup stack, and the bodies that run for these steps.
 
 ghost use Rattle.std.specs.Prelude.{◌≡◌, ◌+◌, ◌^◌, ◌<◌, ◌≤◌, ◌∷◌, [], ℕ, IsTrue, OnOk};
 ghost use Rattle.std.specs.List.{list_all};
@@ -32,7 +32,7 @@ use wb_heap_model::heap::{Item, Panic, Ptr};
 use wb_tree::script::Script;
 
 impl<'a> Control<'a> {
-    /// Begins to destroy the object that a pointer names. For null there is nothing to do.
+    /// Begins to destroy the object that a pointer names. A null pointer destroys nothing.
     pub fn begin_delete(&mut self, at: Context, ptr: Ptr) -> Result<(), NoMemory>
         requires { self.old.ending ≡ GoesOn }
         ensures kept { OnOk result ((script : Script) (r : Rule) (budget : ℕ) (h : RunState) →
@@ -95,8 +95,7 @@ impl<'a> Control<'a> {
         }
     }
 
-    /// Takes the next step of destroying items: takes off the newest item and begins to destroy it. `left` items, this one included, are
-    /// left to destroy.
+    /// Takes the newest item off the cleanup stack and begins to destroy it. `left` items are left to destroy, including this item.
     #[inline(never)]
     pub fn step_items(
         &mut self,
@@ -134,8 +133,8 @@ impl<'a> Control<'a> {
         }
     }
 
-    /// Begins the `destroy` body of an object's class, after which the object is released. Panics with WORKBENCH 1 if the pointer names no
-    /// live cell, and with WORKBENCH 2 if the cell holds no object.
+    /// Begins the `destroy` body of an object's class. When the body has ended, the object is released. Panics with WORKBENCH 1 if the
+    /// pointer names no live cell, and with WORKBENCH 2 if the cell holds no object.
     #[inline(never)]
     pub fn step_object(
         &mut self,

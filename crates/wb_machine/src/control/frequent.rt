@@ -1,6 +1,6 @@
-//! How a statement begins. The statements that most steps begin have a match arm of their own here: so a step finds out once which
-//! statement it begins, and not once for the operands, once for the pieces that are added and once for the function that carries the
-//! statement out. All other statements are passed on to `heads`.
+//! How a statement begins. Each of the most frequent statements has a match arm of its own here, so that a step matches the statement only
+//! once. Without these arms, a step would match the statement three times: to test the operands, to find the pieces to add, and to find the
+//! function that carries the statement out. All other statements are passed on to `heads`.
 
 ghost use Rattle.std.specs.Prelude.{◌≡◌, ℕ, IsOk, IsTrue, OnOk};
 ghost use Rattle.wb_tree.specs.Sound.{is_script};
@@ -37,7 +37,7 @@ impl<'a> Control<'a> {
         Ok(())
     }
 
-    /// Begins a statement, unless one of its operands panics.
+    /// Begins a statement. If one of the statement's operands panics, the run ends with this panic instead.
     #[inline(always)]
     pub(crate) fn begin_any(
         &mut self,

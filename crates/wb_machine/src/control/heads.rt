@@ -1,4 +1,5 @@
-//! How each statement begins: a statement that runs no other is carried out, and any other adds pieces that are still to do.
+//! How each statement begins. A statement that runs no other statement is carried out; any other statement adds pieces that are still to
+//! do.
 
 ghost use Rattle.std.specs.Prelude.{◌≡◌, ◌+◌, ◌≤◌, [], ◌∷◌, ℕ, None, length, max, IsTrue, OnOk};
 ghost use Rattle.std.specs.List.{list_all};
@@ -32,7 +33,7 @@ use wb_heap_model::heap::{Panic, Ptr};
 use wb_tree::script::{Condition, Number, Pointer, Script, Statement, StatementAt};
 
 impl<'a> Control<'a> {
-    /// Begins the part of an `if` that its condition chooses, unless that part is empty.
+    /// Begins the part of an `if` that the condition chooses. If this part is empty, nothing is added.
     #[inline(always)]
     fn begin_if(
         &mut self,
@@ -70,7 +71,7 @@ impl<'a> Control<'a> {
         Ok(())
     }
 
-    /// Begins a `repeat`. Its number of turns is read here, once.
+    /// Begins a `repeat`. The number of turns is read here, and not again later.
     #[inline(never)]
     fn begin_repeat(
         &mut self,
@@ -97,7 +98,7 @@ impl<'a> Control<'a> {
         Ok(())
     }
 
-    /// Begins the body of a TRAP, and records how many items are on the cleanup stack at its entry.
+    /// Begins the body of a TRAP, and records how many items are on the cleanup stack at the TRAP's entry.
     #[inline(never)]
     fn begin_trap(
         &mut self,
@@ -125,8 +126,8 @@ impl<'a> Control<'a> {
         Ok(())
     }
 
-    /// Begins to destroy the `count` newest items. At least `count` items must be above those at the entry of the innermost TRAP, which is
-    /// tested before the first item is destroyed.
+    /// Begins to destroy the `count` newest items. Panics before destroying any item if fewer than `count` items were pushed since the
+    /// entry of the innermost TRAP and are still on the cleanup stack.
     #[inline(never)]
     fn begin_pop(&mut self, at: Context, count: &Number, state: &State) -> Result<(), NoMemory>
         requires { self.old.ending ≡ GoesOn }
@@ -221,8 +222,8 @@ impl<'a> Control<'a> {
         self.begin_delete(at, state.pointer(script, *object))
     }
 
-    /// Begins a body in a frame of its own. `this` is the object whose body it is, or null. When the body has ended, the caller's frame is
-    /// the innermost again, and `after` follows. Panics with WORKBENCH 7 if `MOST_FRAMES` bodies run already.
+    /// Begins a body in a frame of its own. `this` is the object whose body begins, or null if the body is of no object. When the body has
+    /// ended, the caller's frame is the innermost again, and `after` follows. Panics with WORKBENCH 7 if `MOST_FRAMES` bodies run already.
     #[inline(always)]
     pub fn begin_body(
         &mut self,
@@ -263,8 +264,8 @@ impl<'a> Control<'a> {
         Ok(())
     }
 
-    /// Begins a statement none of whose operands panics. A statement that runs no other is carried out, and any other adds pieces that are
-    /// still to do.
+    /// Begins a statement whose operands don't panic. A statement that runs no other statement is carried out; any other statement adds
+    /// pieces that are still to do.
     #[inline(always)]
     pub fn begin_statement(
         &mut self,
@@ -322,8 +323,8 @@ impl<'a> Control<'a> {
         }
     }
 
-    /// Begins a statement, unless one of its operands panics. Operands are tested before any cell that the statement uses, and before the
-    /// range of any number.
+    /// Begins a statement. If one of the statement's operands panics, the run ends with this panic instead. This test comes before the
+    /// tests of the cells that the statement uses and of the ranges of numbers.
     #[inline(always)]
     pub fn begin_unless_refused(
         &mut self,

@@ -1,4 +1,4 @@
-//! Machine turns: one of a run, and all that are left of it.
+//! How a run takes one machine turn, or all machine turns that are left.
 
 ghost use Rattle.std.specs.Prelude.{◌≡◌, ◌+◌, ◌<◌, ◌≤◌, ◌&&◌, ℕ, true, false, if◌then◌else◌};
 ghost use Rattle.std.specs.Prelude.{nat_lt, unwrap_or, min, IsTrue, OnOk};
@@ -22,8 +22,12 @@ use crate::pieces::Ending;
 use crate::state::State;
 use wb_basics::limits::LARGEST_BUDGET;
 use wb_basics::memory::NoMemory;
+use wb_meaning::progress::StepProgress;
 use wb_meaning::run::Why;
 use wb_tree::script::Script;
+
+/// Progress is reported each time the number of steps taken is a multiple of this number.
+const STEPS_BETWEEN_REPORTS: u32 = 4_096;
 
 impl<'a> Control<'a> {
     /// Cuts the run at the budget.
@@ -39,9 +43,9 @@ impl<'a> Control<'a> {
         self.ending = Ending::Cut(Why::Budget);
     }
 
-    /// Takes a machine turn. The first one begins the run; any other takes a step, or cuts the run if the budget is used up. Pieces that
-    /// are done after it are taken off at once. The machine turn makes an attempt exactly if it asks for one, unless the ceiling cuts the
-    /// run.
+    /// Takes a machine turn. The first turn begins the run. Any other turn takes a step, or cuts the run if the budget is used up. Pieces
+    /// that are done after the turn are taken off at once. A turn that asks for an attempt makes one, unless the ceiling cuts the run; no
+    /// other turn makes an attempt.
     #[inline(always)]
     pub fn turn(
         &mut self,
@@ -93,12 +97,13 @@ impl<'a> Control<'a> {
         Ok(())
     }
 
-    /// Takes machine turns until the run is over, each as `turn` does.
-    pub fn take_all_turns(
+    /// Takes machine turns, each with `turn`, until the run is over. `progress` is notified of the steps taken.
+    pub fn take_all_turns<P: StepProgress>(
         &mut self,
         script: &'a Script,
         budget: u32,
         state: &mut State,
+        progress: &mut P,
     ) -> Result<(), NoMemory>
         requires script { IsTrue (is_script script.now) }
         requires small { budget ≤ LARGEST_BUDGET }
@@ -115,7 +120,16 @@ impl<'a> Control<'a> {
     {
         while !self.is_over() {
             self.turn(script, budget, true, state)?;
+            report_steps(progress, state.steps());
         }
         Ok(())
+    }
+}
+
+/// Notifies `progress` of the number of steps taken if this number is a multiple of `STEPS_BETWEEN_REPORTS`.
+#[inline(always)]
+fn report_steps<P: StepProgress>(progress: &mut P, steps: u32) {
+    if steps % STEPS_BETWEEN_REPORTS == 0 {
+        progress.take_steps(steps);
     }
 }

@@ -1,5 +1,4 @@
-//! Pending pieces of two runs that are the same except for allocation numbers, at the same place of the script, and what pieces add to a
-//! fingerprint.
+//! Whether the pending pieces of two runs are the same except for allocation numbers, and what pieces add to a fingerprint.
 
 ghost use Rattle.std.specs.Prelude.{◌≡◌, ◌+◌, ◌<◌, ◌∷◌, drop, length, true};
 ghost use Rattle.wb_renaming.specs.SameButNumbers.{AllBeside, IsSamePointer};
@@ -15,7 +14,7 @@ use crate::fingerprint::Fingerprint;
 use crate::pieces::{After, Context, Ending, PendingPiece, first_statement};
 use wb_heap_model::heap::Ptr;
 
-/// Whether the piece that was above the pending ones ended plainly.
+/// Whether the piece that was above the pending pieces ended plainly.
 fn goes_on(ending: Ending) -> bool
     ensures { result ≡ true → ending ≡ GoesOn }
 {
@@ -51,7 +50,7 @@ fn same_turns(at: Context, left: u32, other: Context, other_left: u32) -> bool
     same_context(at, other) && left == other_left
 }
 
-/// Whether two callers run a body of the same object, and the same follows both calls, except for allocation numbers.
+/// Whether two callers run a body of the same object, and the same work follows both calls. Allocation numbers may differ.
 fn same_caller(
     names: &mut Names,
     this: Ptr,
@@ -85,7 +84,8 @@ fn same_code(piece: PendingPiece, other: PendingPiece) -> bool
     }
 }
 
-/// Whether two pieces that end a TRAP, or follow the end of one, are the same.
+/// Whether two pieces are the same TRAP, or the same TRAP whose body was left; `false` for pieces of other kinds. `main`'s own TRAP counts
+/// as a TRAP here.
 fn same_trap(piece: PendingPiece, other: PendingPiece) -> bool
     ensures same { result ≡ true → other.entry ≡ piece.entry }
     ensures trap { result ≡ true → is_of_trap piece.entry ≡ true }
@@ -132,7 +132,7 @@ fn piece_at<'a>(pieces: &[PendingPiece<'a>], at: usize) -> PendingPiece<'a>
     pieces[at]
 }
 
-/// Whether there are equally many pieces on both sides, each the same as its counterpart except for allocation numbers.
+/// Whether two runs have equally many pieces, and each piece is the same as its counterpart except for allocation numbers.
 fn same_pieces(names: &mut Names, pieces: &[PendingPiece], others: &[PendingPiece]) -> bool
     ensures same { result ≡ true → AllBeside (IsSamePiece names.new.names) pieces.now others.now }
     ensures grown { IsGrown names.old names.new }
@@ -150,8 +150,8 @@ fn same_pieces(names: &mut Names, pieces: &[PendingPiece], others: &[PendingPiec
     true
 }
 
-/// Whether equally many turns are left wherever both sides have a `repeat` at the same index. This is a quick test: it looks at no other
-/// pieces, and ends with the shorter side.
+/// Whether two lists of pieces agree in the turns left. If both lists have a `repeat` at one index, the two `repeat`s must have equally
+/// many turns left. This quick test looks at no other pieces, and ends with the shorter list.
 fn same_turns_left(pieces: &[PendingPiece], others: &[PendingPiece]) -> bool {
     for i in 0..pieces.len().min(others.len()) {
         if let (PendingPiece::Turns(_, left, _), PendingPiece::Turns(_, other_left, _)) = (
@@ -165,7 +165,7 @@ fn same_turns_left(pieces: &[PendingPiece], others: &[PendingPiece]) -> bool {
     true
 }
 
-/// Two numbers of a piece, for a fingerprint. Pieces that are the same except for allocation numbers have the same two.
+/// Two numbers of a piece, for a fingerprint. Pieces that are the same except for allocation numbers have the same two numbers.
 fn numbers_of(piece: &PendingPiece) -> (u32, u32) {
     match piece {
         PendingPiece::Code(_, statements) => match statements.first() {
@@ -184,7 +184,7 @@ fn numbers_of(piece: &PendingPiece) -> (u32, u32) {
 }
 
 impl<'a> Control<'a> {
-    /// Adds the pending pieces to a fingerprint. Two runs whose pieces are the same except for allocation numbers add the same.
+    /// Adds the pending pieces to a fingerprint. Two runs whose pieces are the same except for allocation numbers add the same numbers.
     pub fn add_to(&self, print: &mut Fingerprint) {
         for piece in self.pieces.as_slice() {
             let (one, other) = numbers_of(piece);
@@ -192,20 +192,21 @@ impl<'a> Control<'a> {
         }
     }
 
-    /// The script line of the statement that the next step begins; `None` if the piece on top begins with no statement.
+    /// The script line of the statement that the piece on top begins with; `None` if there is no piece, or the piece begins with no
+    /// statement.
     fn next_line(&self) -> Option<u32> {
         let first = first_statement(self.pieces.last()?)?;
         Some(first.line)
     }
 
-    /// Whether another run has equally many pieces pending, and its next statement is on the same line of the script, or neither run's next
-    /// step begins a statement.
+    /// Whether two runs have equally many pending pieces, and either both next steps begin a statement on the same script line, or neither
+    /// begins a statement.
     pub fn is_at_line_of(&self, other: &Control) -> bool {
         self.pieces.len() == other.pieces.len() && self.next_line() == other.next_line()
     }
 
-    /// Whether both runs go on, with equally many pieces pending, the next statement on the same line of the script, and equally many turns
-    /// left of each pending `repeat`. This is a quick test, made before all pieces are compared.
+    /// Whether both runs go on, have equally many pending pieces, are at the same script line, and have equally many turns left of each
+    /// pending `repeat`. This quick test is made before all pieces are compared.
     pub fn is_at_place_of(&self, other: &Control) -> bool
         ensures here { result ≡ true → self.now.ending ≡ GoesOn }
         ensures there { result ≡ true → other.now.ending ≡ GoesOn }

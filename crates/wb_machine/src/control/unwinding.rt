@@ -1,4 +1,4 @@
-//! What becomes of pieces that are done: each decides how the run goes on, by how the piece above it ended.
+//! What becomes of pieces that are done: each piece decides how the run goes on, depending on how the piece above it ended.
 
 ghost use Rattle.std.specs.Prelude.{◌≡◌, ◌+◌, ◌-◌, ◌<◌, ◌≤◌, ◌⊎◌, ◌++◌, ◌∷◌, [], ℕ, List, true, false, length, max};
 ghost use Rattle.std.specs.Prelude.{take, drop, vec_len, IsTrue, OnOk};
@@ -27,8 +27,8 @@ use wb_basics::memory::NoMemory;
 use wb_heap_model::heap::{Panic, Ptr};
 
 impl<'a> Control<'a> {
-    /// Whether the piece on top is done: the run isn't stopped, and either the piece has no step left, or the piece above it ended with a
-    /// return or a leave.
+    /// Whether the piece on top is done. The piece is done if the run isn't stopped, and either the piece has no step left, or the piece
+    /// above it ended with a return or a leave.
     #[inline(always)]
     fn is_done(&self) -> bool
         ensures yes { IsTrue result → (is_stop self.now.ending ≡ false)
@@ -41,14 +41,14 @@ impl<'a> Control<'a> {
     {
         match (self.ending, self.pieces.last()) {
             (_, None) => false,
-            // most steps end with a block on top, which has an arm of its own
+            // most steps end with a block on top, so a block has an arm of its own
             (Ending::GoesOn, Some(PendingPiece::Code(_, statements))) => statements.is_empty(),
             (Ending::GoesOn, Some(piece)) => !needs_step(piece),
             (ending, Some(_)) => !ending.is_stop(),
         }
     }
 
-    /// Puts two pieces on top: `then`, and above it the destruction of all items but the `entry` oldest ones.
+    /// Puts two pieces on top: `then`, and above it the destruction of all items except the `entry` oldest items.
     fn destroy_to(
         &mut self,
         at: Context,
@@ -78,9 +78,9 @@ impl<'a> Control<'a> {
         Ok(())
     }
 
-    /// Ends a TRAP. If its body ended plainly, the TRAP's local gets 0; there must be as many items now as at the TRAP's entry, or the run
-    /// panics. If the body was left, the items above those of the entry are to be destroyed, and then the local gets the code of the leave.
-    /// No script returns out of a TRAP.
+    /// Ends a TRAP. If the TRAP's body ended plainly and the stack has as many items as at the TRAP's entry, the TRAP's local gets 0. If
+    /// the body ended plainly but the number of items differs, the run panics. If the body left, all items added since the TRAP's entry are
+    /// destroyed, and then the local gets the code of the leave. No script returns out of a TRAP.
     #[inline(never)]
     fn unwind_trap(
         &mut self,
@@ -123,7 +123,8 @@ impl<'a> Control<'a> {
         Ok(())
     }
 
-    /// Puts the code of a leave into the TRAP's local, once the items are destroyed.
+    /// Puts the code of a leave into the TRAP's local, after the items were destroyed. If the destruction of an item left, that leave goes
+    /// on instead.
     fn unwind_caught(&mut self, local: u8, code: i32, state: &mut State)
         requires { is_stop self.old.ending ≡ false }
         ensures kept { (script : Script) (r : Rule) (budget : ℕ) →
@@ -141,8 +142,8 @@ impl<'a> Control<'a> {
         }
     }
 
-    /// Ends `main`. If its body ended plainly or returned, no item may be left, or the run panics. If the body was left, all items are to
-    /// be destroyed, and then the leave ends the run.
+    /// Ends `main`. If `main` ended plainly or returned, but an item is still on the cleanup stack, the run panics. If `main` left, all
+    /// items are destroyed, and then the leave ends the run.
     #[inline(never)]
     fn unwind_main(&mut self, state: &State) -> Result<(), AllocError>
         requires { is_stop self.old.ending ≡ false }
@@ -175,7 +176,8 @@ impl<'a> Control<'a> {
         Ok(())
     }
 
-    /// Ends the run by a leave with this code, once the items are destroyed.
+    /// Ends the run by a leave with this code, after the items were destroyed. If the destruction of an item left, that leave ends the run
+    /// instead.
     fn unwind_main_caught(&mut self, code: i32)
         requires { is_stop self.old.ending ≡ false }
         ensures kept { (script : Script) (r : Rule) (budget : ℕ) (h : RunState) →
@@ -192,8 +194,9 @@ impl<'a> Control<'a> {
         }
     }
 
-    /// Ends a body: the caller's frame, which begins at `base` and runs a body of `this`, is the innermost again. Then `after` follows,
-    /// with the pointer that the body returned, or null if it ended without a `return`. If the body was left, the leave goes on instead.
+    /// Ends a body: the caller's frame becomes the innermost again. The caller's frame begins at `base` and runs a body of the object
+    /// `this`. Then the work that `after` names follows, with the pointer that the ended body returned, or with null if that body ended
+    /// without a `return`. If the ended body left, the leave goes on, and nothing else follows.
     #[inline(always)]
     fn unwind_call(&mut self, base: usize, this: Ptr, after: After, state: &mut State)
         requires { is_stop self.old.ending ≡ false }
@@ -220,7 +223,7 @@ impl<'a> Control<'a> {
         self.ending = follow(after, result, state);
     }
 
-    /// Handles a piece that was taken off: decides how the run goes on, by how the piece above it ended.
+    /// Handles a piece that was taken off: decides how the run goes on, depending on how the piece above it ended.
     #[inline(always)]
     fn unwind(&mut self, piece: PendingPiece<'a>, state: &mut State) -> Result<(), AllocError>
         requires stop { is_stop self.old.ending ≡ false }
@@ -282,7 +285,7 @@ impl<'a> Control<'a> {
     }
 }
 
-/// Carries out what follows a body that ended with the result `given`, in the caller's frame. Returns how that ends.
+/// Carries out, in the caller's frame, what follows a body that ended with the result `given`. Returns how this work ends.
 fn follow(after: After, given: Ptr, state: &mut State) -> Ending
     ensures followed { CarriesOut state.old (followed_effect state.old after given) result
         state.new }

@@ -14,9 +14,9 @@ use wb_hbuf::sources::{Edit, Source};
 use wb_heap_model::heap::Panic;
 use wb_text::buf::Buf;
 
-/// Edits of the buffer in a local, in place. An edit that panics leaves the buffer as it was.
+/// These functions edit the buffer in a local, in place. An edit that panics leaves the buffer as it was.
 impl Locals {
-    /// Changes the buffer by the units of a source. If the source is a text in a cell, its cell is in `heap`.
+    /// Changes the buffer with the units of a source, as `change` says. If the source is a text in a cell, this cell is in `heap`.
     pub fn edit_buffer(
         &mut self,
         index: u8,
@@ -62,7 +62,7 @@ impl Locals {
         }
     }
 
-    /// Gives the buffer's text another length, in units.
+    /// Sets the length of the buffer's text, in units.
     pub fn set_buffer_length(&mut self, index: u8, length: u32) -> Result<(), Panic>
         ensures answer { let b = buffer_in (value_in self.old.locals index) in
             result ≡ answer_of (set_length_text b.max b.units length) }
@@ -79,7 +79,8 @@ impl Locals {
         }
     }
 
-    /// Puts `buf` into a local that holds no buffer, unless the edit of `buf` was refused. Returns `answer`, which that edit gave.
+    /// Puts `buf` into a local that holds no buffer, unless the edit of `buf` panicked. `answer` is the result of this edit. Returns
+    /// `answer`.
     fn put_back(&mut self, index: u8, buf: Buf, answer: Result<(), Panic>) -> Result<(), Panic>
         requires { buf.max ≡ max_in (value_in self.old.locals index) }
         ensures answer { result ≡ answer }

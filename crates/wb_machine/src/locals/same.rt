@@ -1,4 +1,4 @@
-//! Locals of two runs that are the same except for allocation numbers, and what locals add to a fingerprint.
+//! Whether the locals of two runs are the same except for allocation numbers, and what locals add to a fingerprint.
 
 ghost use Rattle.std.specs.Prelude.{◌≡◌, ◌+◌, ◌<◌, ◌∷◌, drop, length, slice_get, true, IfSome, Some};
 ghost use Rattle.wb_renaming.specs.SameButNumbers.{AllBeside, IsSameBase, IsSameValue, IsSameView};
@@ -60,7 +60,7 @@ fn same_buffer(buf: &Buf, other: &Buf) -> bool
     buf.max() == other.max() && buf.units() == other.units()
 }
 
-/// The buffer with this index; `None` if there is none.
+/// The buffer with this index; `None` if there is no such buffer.
 fn buffer_at(buffers: &[Buf], index: BufferIndex) -> Option<&Buf>
     ensures { IfSome result (λ buf. slice_get buffers.now index.at ≡ Some buf.now) }
 {
@@ -130,7 +130,8 @@ fn add_buffer(print: &mut Fingerprint, buf: &Buf) {
     }
 }
 
-/// Adds what a slot holds to a fingerprint, without allocation numbers: of a pointer the place, of a view its position and its length.
+/// Adds to a fingerprint what a slot holds, without allocation numbers. A pointer adds its place, and a view adds its position and its
+/// length.
 fn add_slot(print: &mut Fingerprint, slot: &Slot) {
     match slot {
         Slot::Pointer(ptr) => print.add(3, ptr.place),
@@ -143,7 +144,7 @@ fn add_slot(print: &mut Fingerprint, slot: &Slot) {
     }
 }
 
-/// Adds what a local holds to a fingerprint, without allocation numbers.
+/// Adds to a fingerprint what a local holds, without allocation numbers.
 fn add_stored(print: &mut Fingerprint, stored: &Stored, buffers: &[Buf]) {
     match stored {
         Stored::Small(slot) => add_slot(print, slot),
@@ -156,7 +157,8 @@ fn add_stored(print: &mut Fingerprint, stored: &Stored, buffers: &[Buf]) {
 }
 
 impl Locals {
-    /// Adds the locals of all frames to a fingerprint. Two runs whose locals are the same except for allocation numbers add the same.
+    /// Adds the locals of all frames to a fingerprint. Two runs whose locals are the same except for allocation numbers add the same
+    /// numbers.
     pub fn add_to(&self, print: &mut Fingerprint) {
         for stored in self.slots.as_slice() {
             add_stored(print, stored, self.buffers.as_slice());

@@ -1,10 +1,10 @@
-//! A reader or a writer of which a single call fails.
+//! A reader or a writer whose calls all work, except for a single call that fails.
 
 use crate::answers::{Giver, Taker};
 use std::io::{self, ErrorKind, Read, Write};
 
-/// A stream of which one call fails, while those before and after it work. Calls are counted from 0. The call fails with an error of the
-/// kind `with`, or, if that is `None`, by taking no byte.
+/// A stream of which one call fails, while all calls before and after it work. `at` is the number of this call, counted from 0. The call
+/// fails with an error of the kind `with`. If `with` is `None`, the call fails by taking no byte.
 #[derive(Drop)]
 pub(super) struct FailingOnce<S> {
     pub(super) stream: S,
@@ -23,7 +23,7 @@ impl<S> FailingOnce<S> {
         }
     }
 
-    /// What the next call returns if it is the one that fails, or `None`.
+    /// What the next call returns if it is the call that fails; else `None`.
     fn failure(&mut self) -> Option<io::Result<usize>> {
         let call = self.calls;
         self.calls = call.wrapping_add(1);

@@ -1,4 +1,4 @@
-//! The commands that are tried, each with the progress that the program must report.
+//! The commands that the tests try, each with the progress that the program must report.
 
 use crate::failing::{FALLBACK, THRICE};
 use wb_runs::failures::Failing;
@@ -8,26 +8,35 @@ use workbench::Aim;
 pub(super) struct Wanted {
     pub(super) words: &'static [&'static str],
     pub(super) script: &'static [u8],
-    /// How often a sweep, or the search through all lengths, begins and ends.
+    /// How often a single run begins and ends, not counting runs inside sweeps and searches.
+    pub(super) single_runs: u32,
+    /// How often a sweep or the search through all lengths begins and ends.
     pub(super) sweeps: u32,
+    /// The numbers of steps that the program reports as progress.
+    pub(super) steps: &'static [u32],
     pub(super) lengths: &'static [u32],
     /// What the sweep looks for; `None` if there is no sweep.
     pub(super) aim: Option<Aim>,
-    /// How many attempts the run without failure makes, or `None` if no failure is tried after it.
+    /// How many attempts the run without failure makes; `None` if the sweep tries no failure afterwards.
     pub(super) last: Option<u32>,
     pub(super) failures: &'static [Failing],
-    /// Whether sets of attempts are searched by states.
+    /// Whether the sweep searches sets of attempts by states.
     pub(super) are_sets_searched: bool,
 }
 
 /// A cell that nobody frees.
 const LEAKING: &[u8] = b"proc main\nptr a\nalloc a 16\nend\n";
 
-pub(super) static TOLD: [Wanted; 20] = [
+/// A run of 10,001 steps.
+const LONG: &[u8] = b"proc main\nint n\nrepeat 5000\nadd n 1\nend\nend\n";
+
+pub(super) static TOLD: [Wanted; 22] = [
     Wanted {
         words: &["workbench", "sweep"],
         script: FALLBACK,
+        single_runs: 0,
         sweeps: 1,
+        steps: &[],
         lengths: &[],
         aim: Some(Aim::Least(1)),
         last: Some(3),
@@ -37,18 +46,22 @@ pub(super) static TOLD: [Wanted; 20] = [
     Wanted {
         words: &["workbench", "check", "--json"],
         script: FALLBACK,
+        single_runs: 1,
         sweeps: 1,
+        steps: &[],
         lengths: &[],
         aim: Some(Aim::Least(1)),
         last: Some(3),
         failures: &[Failing::Number(1), Failing::Number(2), Failing::Number(3)],
         are_sets_searched: false,
     },
-    // Rate 2 shows a leak.
+    // The run with rate 2 leaks.
     Wanted {
         words: &["workbench", "check", "--every"],
         script: FALLBACK,
+        single_runs: 1,
         sweeps: 1,
+        steps: &[],
         lengths: &[],
         aim: Some(Aim::Least(1)),
         last: Some(3),
@@ -58,18 +71,23 @@ pub(super) static TOLD: [Wanted; 20] = [
     Wanted {
         words: &["workbench", "check", "--pairs"],
         script: FALLBACK,
+        single_runs: 1,
         sweeps: 1,
+        steps: &[],
         lengths: &[],
         aim: Some(Aim::Least(2)),
         last: Some(3),
         failures: &[Failing::Number(1), Failing::Number(2), Failing::Number(3)],
         are_sets_searched: true,
     },
-    // A run in which attempt 1 fails makes no other attempt; one in which attempt 2 fails makes a fourth. Pairs are searched by states.
+    // A run in which attempt 1 fails makes no other attempt. A run in which attempt 2 fails makes a fourth attempt. Pairs are searched by
+    // states.
     Wanted {
         words: &["workbench", "sweep", "--pairs"],
         script: FALLBACK,
+        single_runs: 0,
         sweeps: 1,
+        steps: &[],
         lengths: &[],
         aim: Some(Aim::Least(2)),
         last: Some(3),
@@ -80,18 +98,22 @@ pub(super) static TOLD: [Wanted; 20] = [
     Wanted {
         words: &["workbench", "sweep", "--failures", "3"],
         script: FALLBACK,
+        single_runs: 0,
         sweeps: 1,
+        steps: &[],
         lengths: &[],
         aim: Some(Aim::Least(3)),
         last: Some(3),
         failures: &[Failing::Number(1), Failing::Number(2), Failing::Number(3)],
         are_sets_searched: true,
     },
-    // Three attempts can fail, each of which is made only if those before it have failed.
+    // Three attempts can fail. Each of these attempts is made only if all attempts before it in the `repeat` have failed.
     Wanted {
         words: &["workbench", "check", "--failures=3"],
         script: THRICE,
+        single_runs: 1,
         sweeps: 1,
+        steps: &[],
         lengths: &[],
         aim: Some(Aim::Least(3)),
         last: Some(2),
@@ -101,7 +123,9 @@ pub(super) static TOLD: [Wanted; 20] = [
     Wanted {
         words: &["workbench", "sweep", "--failures=1"],
         script: THRICE,
+        single_runs: 0,
         sweeps: 1,
+        steps: &[],
         lengths: &[],
         aim: Some(Aim::Least(1)),
         last: Some(2),
@@ -112,7 +136,9 @@ pub(super) static TOLD: [Wanted; 20] = [
     Wanted {
         words: &["workbench", "sweep"],
         script: LEAKING,
+        single_runs: 0,
         sweeps: 1,
+        steps: &[],
         lengths: &[],
         aim: Some(Aim::Least(1)),
         last: None,
@@ -122,7 +148,9 @@ pub(super) static TOLD: [Wanted; 20] = [
     Wanted {
         words: &["workbench", "check"],
         script: LEAKING,
+        single_runs: 1,
         sweeps: 1,
+        steps: &[],
         lengths: &[],
         aim: Some(Aim::Least(1)),
         last: None,
@@ -133,7 +161,9 @@ pub(super) static TOLD: [Wanted; 20] = [
     Wanted {
         words: &["workbench", "check", "--budget", "2"],
         script: FALLBACK,
+        single_runs: 1,
         sweeps: 0,
+        steps: &[],
         lengths: &[],
         aim: None,
         last: None,
@@ -143,62 +173,74 @@ pub(super) static TOLD: [Wanted; 20] = [
     Wanted {
         words: &["workbench", "sweep", "--budget", "2"],
         script: FALLBACK,
+        single_runs: 0,
         sweeps: 1,
+        steps: &[],
         lengths: &[],
         aim: Some(Aim::Least(1)),
         last: None,
         failures: &[],
         are_sets_searched: false,
     },
-    // A heap of 175 bytes denies the script's cell, and a heap of 143 bytes the cleanup stack's.
+    // A heap of 175 bytes refuses the script's cell, and a heap of 143 bytes refuses the cleanup stack's cell.
     Wanted {
         words: &["workbench", "lengths"],
         script: LEAKING,
+        single_runs: 0,
         sweeps: 1,
+        steps: &[],
         lengths: &[16_777_216, 175, 143],
         aim: None,
         last: None,
         failures: &[],
         are_sets_searched: false,
     },
-    // A list goes on after attempt 2 and the rates up to it.
+    // With `--all`, the sweep goes on after rate 2, although the run with this rate leaks.
     Wanted {
         words: &["workbench", "sweep", "--every", "--all"],
         script: FALLBACK,
+        single_runs: 0,
         sweeps: 1,
+        steps: &[],
         lengths: &[],
         aim: Some(Aim::All),
         last: Some(3),
         failures: &[Failing::Every(1), Failing::Every(2), Failing::Every(3)],
         are_sets_searched: false,
     },
-    // Without progress nothing is reported.
+    // With `--quiet`, the program reports no progress.
     Wanted {
         words: &["workbench", "sweep", "--quiet"],
         script: FALLBACK,
+        single_runs: 0,
         sweeps: 0,
+        steps: &[],
         lengths: &[],
         aim: None,
         last: None,
         failures: &[],
         are_sets_searched: false,
     },
-    // The run in which attempt 2 fails takes one step more, and is cut.
+    // The run in which attempt 2 fails takes one step more than the run without failure, and is cut.
     Wanted {
         words: &["workbench", "sweep", "--budget", "5"],
         script: FALLBACK,
+        single_runs: 0,
         sweeps: 1,
+        steps: &[],
         lengths: &[],
         aim: Some(Aim::Least(1)),
         last: Some(3),
         failures: &[Failing::Number(1), Failing::Number(2)],
         are_sets_searched: false,
     },
-    // The script is rejected, so there is nothing to sweep.
+    // The program rejects the script, so there is nothing to sweep.
     Wanted {
         words: &["workbench", "sweep"],
         script: b"",
+        single_runs: 0,
         sweeps: 0,
+        steps: &[],
         lengths: &[],
         aim: None,
         last: None,
@@ -208,7 +250,9 @@ pub(super) static TOLD: [Wanted; 20] = [
     Wanted {
         words: &["workbench", "sweep", "a.oom"],
         script: FALLBACK,
+        single_runs: 0,
         sweeps: 0,
+        steps: &[],
         lengths: &[],
         aim: None,
         last: None,
@@ -218,7 +262,9 @@ pub(super) static TOLD: [Wanted; 20] = [
     Wanted {
         words: &["workbench", "run", "--fail", "2"],
         script: FALLBACK,
+        single_runs: 1,
         sweeps: 0,
+        steps: &[],
         lengths: &[],
         aim: None,
         last: None,
@@ -228,7 +274,33 @@ pub(super) static TOLD: [Wanted; 20] = [
     Wanted {
         words: &["workbench", "size"],
         script: FALLBACK,
+        single_runs: 1,
         sweeps: 0,
+        steps: &[],
+        lengths: &[],
+        aim: None,
+        last: None,
+        failures: &[],
+        are_sets_searched: false,
+    },
+    Wanted {
+        words: &["workbench", "run"],
+        script: LONG,
+        single_runs: 1,
+        sweeps: 0,
+        steps: &[4_096, 8_192],
+        lengths: &[],
+        aim: None,
+        last: None,
+        failures: &[],
+        are_sets_searched: false,
+    },
+    Wanted {
+        words: &["workbench", "size"],
+        script: LONG,
+        single_runs: 1,
+        sweeps: 0,
+        steps: &[4_096, 8_192],
         lengths: &[],
         aim: None,
         last: None,

@@ -17,7 +17,7 @@ use wb_lines::forms::role;
 use wb_lines::lists::{add, add_some};
 use wb_tree::script_lines::{Form, ItemKind, Operand, ParameterType, Role};
 
-/// Something of the script's own space: a class with the names of its fields, a procedure or an operation with what its
+/// Something that a script declares in its own space: a class with the names of its fields, or a procedure or an operation with what its
 /// parameters take.
 #[derive(Drop)]
 pub(crate) struct Declaration<'a> {
@@ -90,7 +90,7 @@ fn fields_in_item<'a>(
     }
 }
 
-/// The declaration in the script's own space that a line makes, with this kind and name. `following` are all lines after the line.
+/// The declaration that a line makes in the script's own space, with this kind and name. `following` are all lines after this line.
 fn declaration_of<'a>(
     alloc: Global,
     form: &Form<&'a [u8]>,
@@ -111,7 +111,7 @@ fn declaration_of<'a>(
     })
 }
 
-/// Appends what a line declares in the script's own space, if it declares something there. `following` are all lines after the line.
+/// Appends what a line declares in the script's own space, if the line declares something there. `following` are all lines after this line.
 fn add_items<'a>(
     alloc: Global,
     items: &mut Vec<Declaration<'a>>,

@@ -1,4 +1,5 @@
-//! Whether operands are of the kinds that their lines take, and whether `main` is declared, and `return` used, as they may be.
+//! Whether operands are of the kinds that their lines take, whether `main` is declared as it may be, and whether `return` is used as it may
+//! be.
 
 ghost use Rattle.std.specs.Prelude.{◌≡◌, length, map, not};
 ghost use Rattle.std.specs.List.{flat_map, list_any};
@@ -55,7 +56,7 @@ fn is_pointer(operand: &Operand<Referent>) -> bool
     is_pointer_kind(operand_kind_of(operand))
 }
 
-/// Whether a `set` has pointers on both sides or on neither; true of lines that are no `set` of a local.
+/// Whether a `set` has pointers on both sides or on neither side; `true` for lines that are no `set` of a local.
 fn sides_agree(line_kind: LineKind, operands: &[Operand<Referent>]) -> bool
     ensures { result ≡ sides_agree line_kind operands.now }
 {
@@ -68,7 +69,7 @@ fn sides_agree(line_kind: LineKind, operands: &[Operand<Referent>]) -> bool
     }
 }
 
-/// Whether an argument is of the kind that a parameter takes: a pointer may be of any class.
+/// Whether an argument is of the kind that a parameter takes. If the parameter takes a pointer, the argument may be a pointer of any class.
 fn is_given(parameter: ParameterType<&[u8]>, operand: &Operand<Referent>) -> bool
     ensures { result ≡ is_given (renamed_parameter_type bytes_of_text parameter.entry) operand.now }
 {
@@ -81,7 +82,7 @@ fn is_given(parameter: ParameterType<&[u8]>, operand: &Operand<Referent>) -> boo
     }
 }
 
-/// Whether there is one argument for each parameter, of the kind that the parameter takes.
+/// Whether there is one argument for each parameter, and each argument is of the kind that its parameter takes.
 fn are_given(parameters: &[ParameterType<&[u8]>], operands: &[Operand<Referent>]) -> bool
     ensures { result
         ≡ are_given (map (renamed_parameter_type bytes_of_text) parameters.now) operands.now }
@@ -97,7 +98,7 @@ fn are_given(parameters: &[ParameterType<&[u8]>], operands: &[Operand<Referent>]
     true
 }
 
-/// Whether a procedure's name, the first of these operands, is followed by the arguments that the procedure takes; true if the first
+/// Whether the first of these operands, a procedure's name, is followed by the arguments that the procedure takes; `true` if the first
 /// operand isn't the name of a procedure.
 fn call_agrees(items: &Declarations, operands: &[Operand<Referent>]) -> bool
     ensures { result ≡ call_agrees (bytes_of_items items.now) operands.now }
@@ -113,7 +114,7 @@ fn call_agrees(items: &Declarations, operands: &[Operand<Referent>]) -> bool
     }
 }
 
-/// Whether a call's arguments are as many as the procedure's parameters, each of its kind; true of lines that are no call.
+/// Whether a call has as many arguments as the procedure has parameters, each of the right kind; `true` for lines that are no call.
 fn arguments_agree(
     items: &Declarations,
     line_kind: LineKind,
@@ -131,7 +132,8 @@ fn arguments_agree(
     }
 }
 
-/// Whether all operands of a line are of the kinds that the line takes, both sides of a `set` and the arguments of a call included.
+/// Whether all operands of a line are of the kinds that the line takes. Both sides of a `set`, and the arguments of a call, count as
+/// operands here.
 pub(crate) fn is_right_line(items: &Declarations, line: ResolvedLine) -> bool
     ensures { result ≡ is_right_line (bytes_of_items items.now) (form_of line.entry) }
 {
@@ -151,7 +153,7 @@ fn is_class_line_kind(line_kind: LineKind) -> bool
     matches!(line_kind, LineKind::Class)
 }
 
-/// Whether a line gives `main` parameters, or makes an operation or a class of it.
+/// Whether a line gives `main` parameters, or declares `main` as an operation or a class.
 fn misuses_main(form: &Form<&[u8]>) -> bool
     ensures { result ≡ misuses_main (bytes_of_form form.now) }
 {
@@ -230,7 +232,7 @@ fn returns_outside(known: &NamesSoFar, form: &Form<&[u8]>) -> bool
     }
 }
 
-/// Whether a line has an operand or an argument of a wrong kind, misuses `main`, or returns where it may not.
+/// Whether a line has an operand or an argument of a wrong kind, misuses `main`, or returns where no `return` is allowed.
 pub(crate) fn has_wrong_kind(
     items: &Declarations,
     known: &NamesSoFar,

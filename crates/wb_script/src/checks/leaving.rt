@@ -9,7 +9,7 @@ use crate::checks::names_so_far::NamesSoFar;
 use wb_lines::leaving::may_leave_in;
 use wb_tree::script_lines::Form;
 
-/// Whether a line is in the body of an operation or of a destructor and counts as one that may leave.
+/// Whether a line is in the body of an operation or of a destructor, and counts as a line that may leave.
 pub(crate) fn may_leave(known: &NamesSoFar, form: &Form<&[u8]>) -> bool
     ensures { result ≡ may_leave (known_in known.now) (bytes_of_form form.now) }
 {

@@ -75,7 +75,7 @@ fn is_size_above(most: u32, operands: &[Operand<&[u8]>]) -> bool
     }
 }
 
-/// Whether a line declares a buffer with a larger maximum than buffers may have, or begins a class with more extra bytes than classes may
+/// Whether a line declares a buffer with a larger maximum than a buffer may have, or begins a class with more extra bytes than a class may
 /// have.
 fn is_large(form: &Form<&[u8]>) -> bool
     ensures { result ≡ is_large (bytes_of_form form.now) }
@@ -112,7 +112,7 @@ fn has_more_parameters(form: &Form<&[u8]>) -> bool
     }
 }
 
-/// Whether a line with this role declares or begins one thing more than there may be.
+/// Whether a line with this role declares or begins one thing more than is allowed.
 fn is_one_more(role: Role, known: &NamesSoFar) -> bool
     requires { IsFew known.now }
     ensures { result ≡ is_one_more role (known_in known.now) }

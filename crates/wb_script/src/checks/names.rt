@@ -1,4 +1,4 @@
-//! Names that are looked for among the declared ones: which are declared again, and which are declared nowhere.
+//! Searches for names among the declared names: which names are declared again, and which are declared nowhere.
 
 ghost use Rattle.std.specs.Prelude.{◌≡◌};
 ghost use Rattle.std.specs.List.{flat_map, list_any};
@@ -19,7 +19,7 @@ use wb_lines::forms::role;
 use wb_lines::same::are_same;
 use wb_tree::script_lines::{Form, Operand, ParameterType, Referent, Role};
 
-/// The index of the first of these names that is `name`; `None` if none is.
+/// The index of the first of these names that is `name`; `None` if `name` isn't among them.
 pub(crate) fn place_of(names: &[&[u8]], name: &[u8]) -> Option<usize>
     ensures { result ≡ first_declaration_of (bytes_of_texts names.now) name.now }
 {
@@ -41,7 +41,7 @@ fn is_item_before(items: &Declarations, before: usize, name: &[u8]) -> bool
     }
 }
 
-/// Whether an earlier line declares a name in the space in which a line with this role declares names.
+/// Whether an earlier line declares this name in the space in which a line with this role declares names.
 fn is_declared_there(items: &Declarations, known: &NamesSoFar, role: Role, name: &[u8]) -> bool
     requires { IsFew known.now }
     ensures { result ≡ is_declared_there (names_of (bytes_of_items items.now)) (known_in known.now)
@@ -72,7 +72,7 @@ fn is_parameter(operands: &[Operand<&[u8]>], name: &[u8]) -> bool
     false
 }
 
-/// Whether two of the operands declare parameters with one name.
+/// Whether two of the operands declare parameters with the same name.
 fn has_double(operands: &[Operand<&[u8]>]) -> bool
     ensures { result ≡ has_double (flat_map name_passed (bytes_of_operands operands.now)) }
 {
@@ -89,7 +89,7 @@ fn has_double(operands: &[Operand<&[u8]>]) -> bool
     false
 }
 
-/// Whether a line declares two parameters with one name.
+/// Whether a line declares two parameters with the same name.
 fn has_double_parameter(form: &Form<&[u8]>) -> bool
     ensures { result ≡ has_double (parameter_names (bytes_of_form form.now)) }
 {
@@ -99,7 +99,7 @@ fn has_double_parameter(form: &Form<&[u8]>) -> bool
     }
 }
 
-/// Whether a line declares a name that an earlier line declares in the same space, or two parameters with one name.
+/// Whether a line declares a name that an earlier line declares in the same space, or declares two parameters with the same name.
 pub(crate) fn declares_again(items: &Declarations, known: &NamesSoFar, form: &Form<&[u8]>) -> bool
     requires { IsFew known.now }
     ensures { result ≡ declares_again (names_of (bytes_of_items items.now)) (known_in known.now)

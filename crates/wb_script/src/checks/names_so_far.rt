@@ -44,8 +44,9 @@ fn add_literals<'a>(
     Ok(())
 }
 
-/// What the lines before a line declare: how many classes, procedures and operations; the fields of the class begun last; the literals; the
-/// locals of the body begun last, its parameters first, each with what it holds; and the line kinds of the open blocks.
+/// What the lines before a line declare. `classes`, `procedures` and `operations` are counts. `fields` has the fields of the class begun
+/// last, and `blocks` has the line kinds of the open blocks. `locals` has the locals of the body begun last, parameters first, and `kinds`
+/// says what each local holds.
 #[derive(Drop)]
 pub(crate) struct NamesSoFar<'a> {
     pub classes: usize,
@@ -154,7 +155,7 @@ impl<'a> NamesSoFar<'a> {
         }
     }
 
-    /// Removes all blocks: none is open where a class or a body begins.
+    /// Removes all blocks, because no block is open where a class or a body begins.
     fn close_blocks(&mut self)
         ensures known { known_in self.new ≡ record (known_in self.old) { blocks = [] } }
         ensures items { AreSameItems self.old self.new }
@@ -259,7 +260,7 @@ impl<'a> NamesSoFar<'a> {
         }
     }
 
-    /// Brings the fields, the locals and the open blocks up to date with one more line, by the role of the line.
+    /// Brings the fields, the locals and the open blocks up to date with one more line, depending on the role of the line.
     fn add_of_role(&mut self, role: Role, form: &Form<&'a [u8]>) -> Result<(), AllocError>
         ensures known { OnOk result (known_in self.new ≡ record (known_in self.old) {
           fields = fields_after role (bytes_of_form form.now) (known_in self.old).fields;

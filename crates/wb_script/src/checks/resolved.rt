@@ -59,7 +59,7 @@ fn used_referent(known: &NamesSoFar, name: &[u8]) -> Referent
     }
 }
 
-/// Whether a body is of a class, so that `self` is known in it.
+/// Whether a body belongs to a class, so that `self` is known in the body.
 fn has_this(body: BodyKind) -> bool
     ensures { result ≡ has_this body }
 {
@@ -112,14 +112,14 @@ fn class_in(referent: Referent) -> Option<usize>
     }
 }
 
-/// The index of the class with a name; `None` if the name isn't that of a class.
+/// The index of the class with this name; `None` if the name isn't the name of a class.
 fn class_named(items: &Declarations, name: &[u8]) -> Option<usize>
     ensures { result ≡ class_named (bytes_of_items items.now) name.now }
 {
     class_in(item_referent(items, name))
 }
 
-/// The class with which a local of this kind is declared; `None` if it has no class.
+/// The class with which a local of this kind is declared; `None` if such a local has no class.
 fn class_of_kind(items: &Declarations, kind: Option<LocalKind<&[u8]>>) -> Option<usize>
     ensures { result
         ≡ class_of_kind (bytes_of_items items.now) (option_map bytes_of_kind kind.entry) }
@@ -130,7 +130,7 @@ fn class_of_kind(items: &Declarations, kind: Option<LocalKind<&[u8]>>) -> Option
     }
 }
 
-/// The class with which the local with this name is declared; `None` if it has no class, or there is no such local.
+/// The class with which the local with this name is declared; `None` if the local has no class, or there is no such local.
 fn class_of_local(items: &Declarations, known: &NamesSoFar, name: &[u8]) -> Option<usize>
     ensures { result ≡ class_of_local (bytes_of_items items.now) (known_in known.now).kinds
         (first_declaration_of (known_in known.now).locals name.now) }
@@ -152,7 +152,7 @@ fn class_of_this(known: &NamesSoFar) -> Option<usize>
     }
 }
 
-/// The class of `self` or of the local with this name; `None` if it has no class.
+/// The class of `self` or of the local with this name; `None` if `self` or the local has no class.
 fn class_of_base(items: &Declarations, known: &NamesSoFar, name: &[u8]) -> Option<usize>
     ensures { result ≡ class_of_base (bytes_of_items items.now) (known_in known.now) name.now }
 {
@@ -172,8 +172,8 @@ fn field_at(class: usize, index: Option<usize>) -> Referent
     }
 }
 
-/// What the name of a field stands for, by the class of what is before the dot: `Classless` if that has no class, and `Nothing` if the
-/// class has no such field.
+/// What the name of a field stands for. `class` is the class of what is before the dot. The result is `Classless` if there is no class, and
+/// `Nothing` if the class has no such field.
 fn field_referent(items: &Declarations, class: Option<usize>, name: &[u8]) -> Referent
     ensures { result ≡ field_referent (bytes_of_items items.now) class name.now }
 {

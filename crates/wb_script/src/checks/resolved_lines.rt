@@ -1,5 +1,5 @@
 //! All lines of a script with what their names and literals stand for. The operands of all lines are in one list, so that a line needs no
-//! allocation of its own. What a name stands for is found out in `resolved`.
+//! allocation of its own. The file `resolved` finds out what a name stands for.
 
 ghost use Rattle.std.specs.Prelude.{◌≡◌, ◌<◌, ◌≤◌, ◌++◌, [], ◌∷◌, List, drop, length, take, IfOk, OnErr, OnOk};
 ghost use Rattle.wb_tree.specs.declared.script_lines.Form as model;
@@ -57,7 +57,7 @@ impl Row {
         }
     }
 
-    /// The line of this row, which takes its operands from the front of these, and the operands that are left.
+    /// Takes the row's operands from the front of `operands`. Returns the line with its operands, and the operands that are left.
     pub(crate) fn split<'a>(
         self,
         operands: &'a [Operand<Referent>],

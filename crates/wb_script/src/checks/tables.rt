@@ -83,8 +83,8 @@ pub(crate) fn indexes_of(
     Ok(found)
 }
 
-/// Each name with the index of its first declaration. Items are put in from the last to the first, so that of those with one name the first
-/// is put in last and stays.
+/// Each name with the index of its first declaration. Items are put in from the last to the first: of items with the same name, the first
+/// is put in last, and so stays.
 pub(crate) fn names_of<'a>(
     alloc: Global,
     items: &[Declaration<'a>],

@@ -19,8 +19,8 @@ pub(crate) enum Head {
     Trap(u8),
 }
 
-/// A block that is open: the statements before it in the block or body around it, the number of its first line, counted from 1, and what it
-/// began with.
+/// A block that is open. An open block has the statements before it in the block or body around it, the number of its first line, counted
+/// from 1, and what it began with.
 #[derive(Drop)]
 pub(crate) struct OpenBlock {
     pub before: Items<StatementAt>,
@@ -57,8 +57,8 @@ pub(crate) fn has_trap(blocks: &[OpenBlock]) -> bool
     false
 }
 
-/// The statement that a block with this head becomes when it ends. `statements` are those in it; of an `if` with an `else`, those after the
-/// `else`.
+/// The statement that a block with this head becomes when it ends. `statements` are the statements in the block; if it is an `if` with an
+/// `else`, only the statements after the `else`.
 fn statement_of_block(head: Head, statements: Items<StatementAt>) -> Statement
     ensures { IsWhole head statements result }
 {
@@ -70,7 +70,7 @@ fn statement_of_block(head: Head, statements: Items<StatementAt>) -> Statement
     }
 }
 
-/// The blocks and statements after the first line of a block.
+/// The open blocks and the statements so far, after the first line of a block.
 pub(crate) fn enter_block(
     alloc: Global,
     block_stack: BlockStack,
@@ -95,7 +95,7 @@ pub(crate) fn enter_block(
     })
 }
 
-/// The blocks and statements after an `else`; `None` if the innermost block is no `if`, or has an `else` already.
+/// The open blocks and the statements so far, after an `else`; `None` if the innermost block is no `if`, or already has an `else`.
 pub(crate) fn turn_to_else(
     alloc: Global,
     block_stack: BlockStack,
@@ -122,12 +122,12 @@ pub(crate) fn turn_to_else(
     }
 }
 
-/// What is there after an `end`.
+/// What is left open after an `end`.
 #[derive(Drop)]
 pub(crate) enum Enclosing {
-    /// The innermost block has ended: it is a statement of the block or body around it.
+    /// The innermost block has ended, and is now a statement of the block or body around it.
     Block(BlockStack),
-    /// No block was open, so the body has ended: these are the statements of the body.
+    /// No block was open, so the body has ended, with these statements.
     Body(Items<StatementAt>),
 }
 

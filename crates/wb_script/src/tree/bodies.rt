@@ -23,8 +23,9 @@ use wb_basics::limits::{DEEPEST_BLOCK, MOST_LOCALS};
 use wb_tree::script::{Body, Local, Parameter, Statement, StatementAt};
 use wb_tree::script_lines::{LineKind, Operand, Referent};
 
-/// A body whose end hasn't been read: its parameters; the class of `self`, if it is a body of a class; the locals that its declarations
-/// declare; its scope, which is the parameters and then these locals; and its open blocks with the statements so far.
+/// A body whose end hasn't been read. An open body has its parameters, the class of `self` if it is a body of a class, and the locals that
+/// its declarations declare. An open body also has its scope, which is the parameters followed by these locals, and its open blocks with
+/// the statements so far.
 #[derive(Drop)]
 pub(crate) struct OpenBody {
     pub parameters: Items<Parameter>,
@@ -56,7 +57,7 @@ fn scope_of<'a>(space: Space<'a>, body: &'a OpenBody) -> Scope<'a>
     }
 }
 
-/// The local that a line declares, as the next local of a body; `None` if the line declares no local, or none may be declared there.
+/// The local that a line declares, as the next local of a body; `None` if the line declares no local, or a local may not be declared there.
 fn next_local(
     space: Space,
     body: &OpenBody,
@@ -93,7 +94,7 @@ fn with_local(body: OpenBody, local: Local) -> Result<OpenBody, AllocError>
     })
 }
 
-/// Adds a declaration; `number` is that of its line. `None` if the declaration is not allowed there.
+/// Adds a declaration; `number` is the number of its line. The result is `None` if the declaration is not allowed there.
 fn add_declaration(
     space: Space,
     body: OpenBody,
@@ -112,7 +113,7 @@ fn add_declaration(
     }
 }
 
-/// The statement of a line in an open body, if the line begins no block; `None` if its operands don't fit.
+/// The statement of a line in an open body, if the line begins no block; `None` if the line's operands don't fit.
 fn statement_in(
     alloc: Global,
     space: Space,
@@ -142,8 +143,8 @@ fn push_statement(body: &mut OpenBody, line: u32, statement: Statement) -> Resul
     Ok(())
 }
 
-/// Adds a statement, which begins no block, to an open body in place; `number` is that of its line. Returns false if its operands don't
-/// fit.
+/// Adds a statement that begins no block to an open body in place; `number` is the number of its line. Returns `false` if the statement's
+/// operands don't fit.
 pub(crate) fn add_statement_in_place(
     alloc: Global,
     space: Space,
@@ -166,7 +167,8 @@ pub(crate) fn add_statement_in_place(
     }
 }
 
-/// Adds a statement, which begins no block, to an open body; `number` is that of its line. `None` if its operands don't fit.
+/// Adds a statement that begins no block to an open body; `number` is the number of its line. The result is `None` if the statement's
+/// operands don't fit.
 fn add_statement(
     alloc: Global,
     space: Space,
@@ -188,7 +190,8 @@ fn add_statement(
     }
 }
 
-/// Begins a block; `number` is that of its first line. `None` if the operands don't fit, or there are too many blocks inside one another.
+/// Begins a block; `number` is the number of its first line. The result is `None` if the operands don't fit, or too many blocks are open
+/// inside one another.
 fn begin_block(
     alloc: Global,
     space: Space,
@@ -218,7 +221,7 @@ fn begin_block(
     }
 }
 
-/// Adds an `else`; `None` if it is not allowed there, or has operands.
+/// Adds an `else`; `None` if the `else` is not allowed there, or has operands.
 fn add_else(
     alloc: Global,
     space: Space,
@@ -242,7 +245,7 @@ fn add_else(
     }
 }
 
-/// Adds an `end`; `None` if it has operands.
+/// Adds an `end`; `None` if the `end` has operands.
 fn add_end(
     space: Space,
     body: OpenBody,
@@ -271,7 +274,7 @@ fn add_end(
     }
 }
 
-/// Adds the line with this number to an open body; `None` if it is not allowed there.
+/// Adds the line with this number to an open body; `None` if the line is not allowed there.
 pub(crate) fn add_to_body(
     alloc: Global,
     space: Space,

@@ -18,7 +18,7 @@ use wb_basics::items::Items;
 use wb_tree::script::{Argument, Statement};
 use wb_tree::script_lines::{Operand, ParameterType, Referent};
 
-/// An operand as the argument for a parameter; `None` if it doesn't fit.
+/// An operand as the argument for a parameter; `None` if the operand doesn't fit.
 fn argument(
     here: &Scope,
     parameter: &ParameterType<&[u8]>,
@@ -38,7 +38,7 @@ fn argument(
     }
 }
 
-/// Operands as arguments, one for each parameter; `None` if they don't fit.
+/// Operands as arguments, one for each parameter; `None` if the operands don't fit.
 fn arguments(
     alloc: Global,
     here: &Scope,
@@ -66,7 +66,7 @@ fn arguments(
     }
 }
 
-/// What the parameters of the procedure with an index take; `None` if there is no such procedure.
+/// What each parameter takes, of the procedure with an index; `None` if there is no such procedure.
 fn signature_at<'i, 'a>(
     items: &'i Declarations<'a>,
     index: usize,
@@ -81,14 +81,14 @@ fn signature_at<'i, 'a>(
     }
 }
 
-/// A procedure, and the arguments of a call of it.
+/// A procedure, and the arguments of a call to it.
 #[derive(Drop)]
 pub(crate) struct Called {
     pub procedure: u16,
     pub arguments: Items<Argument>,
 }
 
-/// The call that operands spell: the name of a procedure, and then its arguments; `None` if they don't fit.
+/// The call that operands spell: the name of a procedure, followed by the arguments; `None` if the operands don't fit.
 fn call_in(
     alloc: Global,
     items: &Declarations,

@@ -1,4 +1,4 @@
-//! The lines of a class: its first, its fields, the first lines of its bodies, and its end.
+//! The lines of a class: its first line, its fields, the first lines of its bodies, and its end.
 
 ghost use Rattle.std.specs.Prelude.{◌≡◌, ◌<◌, ◌≤◌, ℕ, [], ◌∷◌, ◌++◌, Some, is_some, length, nat_le, IfOk, IfSome};
 ghost use Rattle.std.specs.Prelude.{IsTrue};
@@ -27,7 +27,7 @@ use wb_basics::limits::{MOST_CLASSES, MOST_EXTRA, MOST_FIELDS};
 use wb_tree::script::Class;
 use wb_tree::script_lines::{LineKind, Operand, Referent};
 
-/// The extra bytes of the class with an index, by the operands of its first line; `None` if the operands don't fit.
+/// The extra bytes of the class with an index, from the operands of its first line; `None` if the operands don't fit.
 fn extra_of(index: usize, operands: &[Operand<Referent>]) -> Option<u32>
     ensures extra { IfSome result (λ extra. (operands.now
         ≡ Name (referent.Declared index) ∷ Size extra ∷ []) × IsTrue (nat_le extra MOST_EXTRA)) }
@@ -51,7 +51,7 @@ fn extra_of(index: usize, operands: &[Operand<Referent>]) -> Option<u32>
     }
 }
 
-/// Begins a class; `number` is that of its first line. `None` if the line is not allowed there.
+/// Begins a class; `number` is the number of its first line. The result is `None` if the line is not allowed there.
 pub(crate) fn begin_class(
     alloc: Global,
     space: Space,

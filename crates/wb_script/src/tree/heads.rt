@@ -1,4 +1,4 @@
-//! What the first line of a block begins, from the operands of the line. As in `statements`, functions that build this are never inlined.
+//! What the first line of a block begins, from the operands of the line. As in `statements`, functions that build a head are never inlined.
 
 ghost use Rattle.wb_tree.specs.declared.script_lines.LineKind.TheVariants as line_kind;
 ghost use Rattle.std.specs.Prelude.{IsTrue};
@@ -81,7 +81,7 @@ fn trap(here: &Scope, operands: &[Operand<Referent>]) -> Option<Head>
     }
 }
 
-/// The head of the block that a line begins; `None` if its operands don't fit.
+/// The head of the block that a line begins; `None` if the line's operands don't fit.
 pub(crate) fn head_of(
     here: &Scope,
     line_kind: LineKind,

@@ -72,7 +72,7 @@ fn locals_of(alloc: Global, parameters: &[Parameter]) -> Result<Items<Local>, Al
     Ok(locals)
 }
 
-/// A body just after its first line, with these parameters. `this` is the class of `self`, if it is a body of a class.
+/// A body just after its first line, with these parameters. `this` is the class of `self`, if the body belongs to a class.
 pub(crate) fn new_body(
     alloc: Global,
     this: Option<u16>,
@@ -101,7 +101,7 @@ fn has_room(whole: &WholeItems) -> bool
     whole.procedures.len() + whole.operations.len() < MOST_PROCEDURES as usize
 }
 
-/// The parameters of the procedure with an index, by the operands of its first line; `None` if the operands don't fit.
+/// The parameters of the procedure with an index, from the operands of its first line; `None` if the operands don't fit.
 fn parameters_of_head(
     alloc: Global,
     classes: usize,
@@ -136,7 +136,7 @@ fn begins_operation(index: usize, operands: &[Operand<Referent>]) -> bool
     }
 }
 
-/// Begins a procedure; `number` is that of its first line. `None` if the line is not allowed there.
+/// Begins a procedure; `number` is the number of its first line. The result is `None` if the line is not allowed there.
 pub(crate) fn begin_procedure(
     alloc: Global,
     space: Space,
@@ -162,7 +162,7 @@ pub(crate) fn begin_procedure(
     }
 }
 
-/// Begins an operation; `number` is that of its first line. `None` if the line is not allowed there.
+/// Begins an operation; `number` is the number of its first line. The result is `None` if the line is not allowed there.
 pub(crate) fn begin_operation(
     alloc: Global,
     space: Space,

@@ -19,7 +19,7 @@ use std::alloc::{AllocError, Global};
 use wb_tree::script::Statement;
 use wb_tree::script_lines::{LineKind, Operand, Referent};
 
-/// The operation that an operand names; `None` if it names no operation.
+/// The operation that an operand names; `None` if the operand names no operation.
 fn operation(items: &Declarations, operand: &Operand<Referent>) -> Option<u16>
     requires { length items.now ≤ LONGEST_SCRIPT }
     ensures { (literals : ℕ) → IsOperationOf (declared_by literals items.now) operand.now result }
@@ -75,7 +75,7 @@ fn delete(here: &Scope, operands: &[Operand<Referent>]) -> Option<Statement>
     Some(Statement::Delete(one_pointer(here, operands)?))
 }
 
-/// The statement of a line that begins no block; `None` if its operands don't fit.
+/// The statement of a line that begins no block; `None` if the line's operands don't fit.
 pub(crate) fn plain_statement(
     alloc: Global,
     items: &Declarations,

@@ -8,8 +8,8 @@ ghost use Rattle.wb_basics.specs.declared.limits.TheConstants.{MOST_CLASSES, MOS
 
 use wb_tree::script::Local;
 
-/// What the operands of a body's lines may name: the locals of the body, the class of `self` if it is a body of a class, how many fields
-/// each class of the script has, and how many literals the script has.
+/// What the operands of a body's lines may name: the locals of the body, and `self`, given by its class, if the body belongs to a class.
+/// Operands may also name fields and literals, given by how many fields each class has and how many literals the script has.
 #[derive(Clone, Copy)]
 pub(crate) struct Scope<'a> {
     pub literals: u32,

@@ -1,6 +1,6 @@
-//! The statements of lines, each from the operands of its line.
+//! The statements of lines, each made from the operands of its line.
 //!
-//! A function that builds a statement is never inlined: otherwise `statement_of` would clear stack space for all of these functions at each
+//! Functions that build a statement are never inlined: otherwise `statement_of` would clear stack space for all of these functions at each
 //! line.
 
 ghost use Rattle.std.specs.Prelude.{◌≡◌, [], ◌∷◌, false, IsTrue, MatchOption};
@@ -22,7 +22,7 @@ use crate::tree::text_statements::{
 use wb_tree::script::{Holder, Number, Pointer, Refusal, Statement};
 use wb_tree::script_lines::{LineKind, Operand, Referent};
 
-/// The statement of a line that takes no operands; `None` if it has some.
+/// The statement of a line that takes no operands; `None` if the line has operands.
 #[inline(never)]
 fn statement_without_operands(
     here: &Scope,
@@ -57,7 +57,7 @@ fn one_number(here: &Scope, operands: &[Operand<Referent>]) -> Option<Number>
     here.number(number)
 }
 
-/// A `set` of a local, which holds a pointer or a number, to a source; `None` if the source doesn't fit.
+/// A `set` of a local that holds a pointer or a number to a source; `None` if the source doesn't fit.
 fn set_local(
     here: &Scope,
     target: &Operand<Referent>,
@@ -77,7 +77,7 @@ fn set_local(
     }
 }
 
-/// A `set` of a local; `None` if its operands don't fit.
+/// A `set` of a local; `None` if the operands of the `set` don't fit.
 #[inline(never)]
 fn set(here: &Scope, operands: &[Operand<Referent>]) -> Option<Statement>
     ensures { IsStatementOf here.now line_kind.Set operands.now result }
@@ -277,7 +277,7 @@ fn of_number(here: &Scope, line_kind: LineKind, operands: &[Operand<Referent>]) 
     }
 }
 
-/// The statement of a line; `None` if its operands don't fit.
+/// The statement of a line; `None` if the line's operands don't fit.
 #[inline(never)]
 pub(crate) fn statement_of(
     here: &Scope,

@@ -1,4 +1,4 @@
-//! The statements of lines about texts and views, each from the operands of its line.
+//! The statements of lines about texts and views, each made from the operands of its line.
 
 ghost use Rattle.std.specs.Prelude.{[], ◌∷◌};
 ghost use Rattle.wb_tree.specs.declared.script_lines.LineKind.TheVariants as line_kind;

@@ -16,8 +16,8 @@ pub(crate) struct WholeItems {
     pub operations: Items<Operation>,
 }
 
-/// What an open body belongs to: a procedure or an operation, given by the number of its first line, or a class, given with the parts that
-/// it has so far.
+/// What an open body belongs to: a procedure or an operation, given by the number of its first line, or a class, given with the parts read
+/// so far.
 #[derive(Drop)]
 pub(crate) enum Owner {
     Procedure(u32),
@@ -30,7 +30,7 @@ pub(crate) enum Owner {
 #[derive(Drop)]
 pub(crate) enum Stage {
     Outside,
-    /// A class, outside of its bodies, with the parts that it has so far.
+    /// A class with the parts read so far, of which no body is open.
     InClass(Class),
     InBody(Owner, OpenBody),
 }
@@ -98,7 +98,7 @@ fn with_operation(whole: WholeItems, line: u32, body: Body) -> Result<WholeItems
     })
 }
 
-/// Adds a body that is complete to what it belongs to. This completes a procedure or an operation, but not a class.
+/// Adds a complete body to what the body belongs to. A complete body completes a procedure or an operation, but not a class.
 pub(crate) fn finish_body(
     whole: WholeItems,
     owner: Owner,

@@ -29,7 +29,7 @@ impl<'a> Scope<'a> {
         }
     }
 
-    /// This index, if the local with it holds a pointer; `None` otherwise.
+    /// This index, if the local with this index holds a pointer; `None` otherwise.
     fn pointer_local(&self, index: usize) -> Option<u8>
         ensures { IsPointerLocal (scope_in self.now) index result }
     {
@@ -53,7 +53,7 @@ impl<'a> Scope<'a> {
         }
     }
 
-    /// The class of `self`, or the one with which a local is declared; `None` if it has no class.
+    /// The class of `self`, or the class with which a local is declared; `None` if there is no class.
     fn class_of_holder(&self, holder: Holder) -> Option<u16>
         ensures { result
             ≡ Rattle.wb_tree.specs.Sound.class_of_holder (scope_in self.now) holder }
@@ -77,8 +77,8 @@ impl<'a> Scope<'a> {
         }
     }
 
-    /// The field with an index in a class, through a local or `self`; `None` if the local or `self` isn't of that class, or the class has
-    /// no such field.
+    /// The field with an index in a class, accessed by a local or `self`. The result is `None` if the local or `self` isn't of this class,
+    /// or the class has no such field.
     fn field_of(&self, holder: Holder, class: usize, index: usize) -> Option<Pointer>
         ensures { MatchOption result
             (is_pointer (scope_in self.now) (P.Field holder class index) ≡ false)
@@ -96,8 +96,8 @@ impl<'a> Scope<'a> {
         }
     }
 
-    /// The field that a name before a dot and a name after it stand for; `None` if the first isn't a local or `self` of the class that has
-    /// the field.
+    /// The field that a name before a dot and a name after the dot stand for. The result is `None` unless the name before the dot is a
+    /// local or `self` of the class that has the field.
     fn field(&self, base: Referent, field: Referent) -> Option<Pointer>
         ensures { IsFieldOf (scope_in self.now) base field result }
     {
@@ -107,7 +107,8 @@ impl<'a> Scope<'a> {
         }
     }
 
-    /// The pointer that an operand spells: a local, `self`, or a field of one of these; `None` if it spells no pointer.
+    /// The pointer that an operand spells: a local, `self`, or a field of a local or of `self`. The result is `None` if the operand spells
+    /// no pointer.
     pub(crate) fn pointer(&self, operand: &Operand<Referent>) -> Option<Pointer>
         ensures { IsSpelled pointer_operand (is_pointer (scope_in self.now)) self.now.literals
             (scope_in self.now) operand_place.Pointer operand.now result }
@@ -140,7 +141,7 @@ impl<'a> Scope<'a> {
         }
     }
 
-    /// The field that an operand spells; `None` if it spells no field.
+    /// The field that an operand spells; `None` if the operand spells no field.
     pub(crate) fn field_target(&self, operand: &Operand<Referent>) -> Option<Pointer>
         ensures spelled { IsSpelled pointer_operand (is_target (scope_in self.now))
             self.now.literals (scope_in self.now) operand_place.FieldTarget operand.now result }
@@ -152,7 +153,7 @@ impl<'a> Scope<'a> {
         }
     }
 
-    /// The class that an operand spells; `None` if it spells no class.
+    /// The class that an operand spells; `None` if the operand spells no class.
     pub(crate) fn class(&self, operand: &Operand<Referent>) -> Option<u16>
         ensures { IsSpelled class_operand (λ class.
             nat_lt class (length self.now.fields.now)) self.now.literals (scope_in self.now)
@@ -184,7 +185,7 @@ impl<'a> Scope<'a> {
         }
     }
 
-    /// The number that an operand spells, or the local that the operand spells and that holds a number; `None` if it spells neither.
+    /// The number that an operand spells, or the number local that it spells; `None` if the operand spells neither.
     pub(crate) fn number(&self, operand: &Operand<Referent>) -> Option<Number>
         ensures { IsSpelled number_operand (is_number self.now.locals.now) self.now.literals
             (scope_in self.now) operand_place.Value operand.now result }

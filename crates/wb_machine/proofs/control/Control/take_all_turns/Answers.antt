@@ -12,7 +12,7 @@ fewer false false budget steps after e more within goes = omega (arith, within, 
 fewer false true budget steps after e more within goes = omega (arith, more, within)
 
 pub loop-self-preserved : goal.loop-self-preserved
-loop-self-preserved c =
+loop-self-preserved g c =
     let kept = c.loop-self.invariant in
     let was = c.loop-self.self in
     let now = c.turn.new.self in
@@ -34,7 +34,7 @@ loop-self-preserved c =
     }
 
 pub loop-self-smaller : goal.loop-self-smaller
-loop-self-smaller c =
+loop-self-smaller g c =
     let was = c.loop-self.self in
     let now = c.turn.new.self in
     let turn = c.in_ok-turn.ensures in

@@ -7,7 +7,7 @@ use Rattle.wb_machine.proofs.control.Control.take_all_turns.Given as goal
 
 -- the rest stays, a step is to come or the run is over, and what a turn asks for
 abbrev pub invariant-loop-self : goal.invariant-loop-self
-invariant-loop-self l =
+invariant-loop-self g l =
     record {
       kept : (r : Rule) → Fits r l.fn.state.debug.rule (is_over l.self.ending l.self.pieces.items) l.state.debug.attempts →
           rest_from l.fn.script l.fn.budget r l.self.ending l.self.pieces.items l.state ≡ rest_from l.fn.script l.fn.budget r l.fn.self.ending l.fn.self.pieces.items l.fn.state;
@@ -17,4 +17,4 @@ invariant-loop-self l =
 
 -- the steps that are left, and the turn that ends the run
 abbrev pub decreases-loop-self : goal.decreases-loop-self
-decreases-loop-self l = cond (is_over l.self.ending l.self.pieces.items) 0 1 + (l.fn.budget - l.state.steps)
+decreases-loop-self g l = cond (is_over l.self.ending l.self.pieces.items) 0 1 + (l.fn.budget - l.state.steps)

@@ -11,14 +11,14 @@ use Rattle.wb_machine.proofs.whole_runs.Fitting.{fits-before}
 use Rattle.wb_machine.proofs.machine.Machine.take_other_turns.Goals as goal
 
 pub take_all_turns-taken-requires-clause-between : goal.take_all_turns-taken-requires-clause-between
-take_all_turns-taken-requires-clause-between c =
+take_all_turns-taken-requires-clause-between g c =
     let m = c.self.inside in
     let begun = ap (λ (s : Seen). s.begun) c.self.view_is ∙ c.requires.begun in
     subst (λ b. IsBetweenTurns m.script.now m.budget b m.control.ending m.control.pieces.items m.state) begun
     (c.self.invariant.sound (ap (λ (s : Seen). s.failed) c.self.view_is ∙ c.requires.well)).between
 
 pub invariant_of-self-in_default-list_leaks : goal.invariant_of-self-in_default-list_leaks
-invariant_of-self-in_default-list_leaks c =
+invariant_of-self-in_default-list_leaks g c =
     let m = c.self.inside in
     let begun : m.begun ≡ true = ap (λ (s : Seen). s.begun) c.self.view_is ∙ c.requires.begun in
     let going : has_ended m ≡ false = ap (λ (s : Seen). s.over) c.self.view_is ∙ c.requires.going in
