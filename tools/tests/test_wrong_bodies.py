@@ -114,8 +114,9 @@ class ByTheToolchain(SmallRepository):
         self.assertEqual(sorted(lines[:-1]), sorted(["low/too-little: disproved", twice, *list(OF_LOW.values())[:-1]]))
         self.assertEqual((lines[-1], status, (self.room / FILE).exists()), ("3 passed, 3 failed", 1, False))
         (self.room / "crates/low/wrong-bodies/further.edits").unlink()
-        lines, status = self.try_bodies("low", "--only", "all")
+        lines, status = self.try_bodies("low", "--only", "all", "--logs", str(self.room / "logs"))
         self.assertEqual((lines, status, (self.room / FILE).exists()), (["low/all: disproved", "1 passed, 0 failed"], 0, False))
+        self.assertIn("it is not proved that", (self.room / "logs/low.log").read_text(encoding="utf-8"))
 
 
 class WhatIsChosen(SmallRepository):
