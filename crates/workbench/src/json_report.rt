@@ -266,8 +266,7 @@ pub(crate) fn first_line<'a>(bytes: &'a [u8]) -> (&'a [u8], &'a [u8])
     (bytes, &bytes[bytes.len()..])
 }
 
-/// What a search found: a failure, a length in bytes, or the numbers of `set`. The value is `none` if the search found nothing, and `null`
-/// if there was no search or the search wasn't finished.
+/// What a search found: a failure, a length in bytes or the numbers of `set`; `none` if it found nothing, `null` if no search was finished.
 fn failing_number(
     alloc: Global,
     number: Option<FailingNumber>,
