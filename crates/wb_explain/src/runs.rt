@@ -6,6 +6,7 @@
 mod attempts;
 mod blame;
 mod caught;
+mod copies;
 mod counts;
 mod cuts;
 mod destroyed;

@@ -10,7 +10,9 @@ use wb_machine::Raiser;
 /// `None` if the cell is gone for another reason.
 pub fn cure_of_gone(run: &WatchedRun<'_>, ended: Ended) -> Option<&'static str> {
     if ended.by != By::Line {
-        return Some("it has two items: push it once, or pop one of the two");
+        return Some(
+            "it has two items: push it once, or pop one of the two; a later `pop` or `popdestroy` that counts both must then take off one item fewer",
+        );
     }
     match popped_instead(run, Some(ended)) {
         Some(_) => Some(

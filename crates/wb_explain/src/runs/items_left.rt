@@ -5,9 +5,7 @@ use crate::runs::counts::{Many, of_one_or_more};
 use crate::runs::panics::Meaning;
 use crate::runs::paths::{AfterLine, body_name};
 use crate::runs::script_page::{ScriptPage, Written};
-use crate::runs::taken::{
-    TAKEN_FROM_CALLER, Then, cure_of_off, put_item_off, put_left, put_of_caller,
-};
+use crate::runs::taken::{Then, cure_of_off, cure_of_taken, put_item_off, put_left, put_of_caller};
 use wb_heap_model::heap::Panic;
 use wb_history::{ItemOnStack, Origin, Stay, WatchedRun};
 use wb_machine::{Raised, Raiser};
@@ -91,7 +89,7 @@ pub fn put_items(page: &mut ScriptPage<'_>, raised: Raised, run: &WatchedRun<'_>
 /// What to do if more items are to be popped than were pushed since the innermost TRAP began.
 pub fn cure_of_below(page: &ScriptPage<'_>, run: &WatchedRun<'_>) -> &'static str {
     match (items_below(run), run.history.items.of_caller) {
-        (_, Some(_)) => TAKEN_FROM_CALLER,
+        (_, Some(_)) => cure_of_taken(page, run),
         (0, None) => cure_of_off(page, run),
         _ => "items of an outer TRAP are popped outside the inner one",
     }

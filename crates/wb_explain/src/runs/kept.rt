@@ -1,6 +1,7 @@
 //! What is said about a pointer that is null or names a dead cell: which line set it so, and which line left before changing the pointer.
 
-use crate::runs::pointers::{failed_for, frees};
+use crate::runs::copies::put_cure_of_copied;
+use crate::runs::pointers::failed_for;
 use crate::runs::script_page::{ScriptPage, Written};
 use std::alloc::AllocError;
 use wb_history::{
@@ -370,21 +371,4 @@ fn put_cure_of_unchecked(page: &mut ScriptPage<'_>, line: u32, from: u32) {
     page.page.write(format_args!(
         "line {line} gave `{given}` the null that line {from} gives where its attempt fails: look at `{name}` {when} that, for example with `leaveifnull {name}`"
     ));
-}
-
-/// Writes what to do about a pointer that a line copied, if the copy or its source still named a cell after the end of the cell's life.
-fn put_cure_of_copied(
-    page: &mut ScriptPage<'_>,
-    write: PointerWrite,
-    ended: Ended,
-    run: &WatchedRun<'_>,
-) {
-    let line = ended.at.number();
-    let name = page.word(write.line, if write.was_dead { 2 } else { 1 });
-    page.page.write(format_args!(
-        "`{name}` still named it after line {line}: give it another value there, or null"
-    ));
-    if !write.was_dead && run.end.pointer.is_some_and(|it| !frees(run, it)) {
-        page.page.write(format_args!(", or let line {line} come after the last use of `{name}`"));
-    }
 }

@@ -4,7 +4,7 @@ use crate::runs::destroyed::of_item_without_cell;
 use crate::runs::kept::name_of;
 use crate::runs::panics::{CHECK_FIRST, CHECK_IN_DESTRUCTOR};
 use crate::runs::script_page::ScriptPage;
-use crate::runs::taken::{LEFT_NONE, TAKEN_FROM_CALLER, destroyed_after_callee, taken_with};
+use crate::runs::taken::{LEFT_NONE, cure_of_taken, destroyed_after_callee, taken_with};
 use wb_history::{
     AttemptMade, BodyKind, By, End, Ended, Life, PointerFault, PointerState, WatchedRun,
     is_same_field, is_same_pointer, target_of,
@@ -247,6 +247,18 @@ pub fn frees(run: &WatchedRun<'_>, fault: PointerFault) -> bool {
     is_freed && !fault.is_owner
 }
 
+/// What to do about a cell that both its item and a field owned. If a leave deleted the cell's object, its second phase may have left: then
+/// the field must not keep the object, so the item must own the object until no line may leave any more.
+fn cure_of_two_owners(ended: Ended) -> &'static str {
+    match (ended.end, ended.by) {
+        (End::Deleted, By::Leave) => {
+            "its item and the field both own it: set the field only after the last line that may leave, and pop the item right after that"
+        }
+        _ =>
+            "its item and the field both own it: pop the item as soon as the field has got it, before the next line that may leave",
+    }
+}
+
 /// What to do about a pointer whose cell is gone. This depends on how the cell's life ended.
 fn cure_of_ended(
     page: &ScriptPage<'_>,
@@ -261,9 +273,9 @@ fn cure_of_ended(
         (End::Moved, _) => {
             "a cell that grew may have moved, and then only the result of that line names it"
         }
-        (_, By::PopDestroy) if taken_with(ended, run).is_some() => TAKEN_FROM_CALLER,
+        (_, By::PopDestroy) if taken_with(ended, run).is_some() => cure_of_taken(page, run),
         (_, By::PopDestroy | By::Leave) if frees(run, fault) && run.history.bodies.undoes(line) => {
-            "its item and the field both own it: pop the item as soon as the field has got it, before the next line that may leave"
+            cure_of_two_owners(ended)
         }
         (_, By::PopDestroy) if destroyed_after_callee(page, ended, run).is_some() => LEFT_NONE,
         (_, By::Leave) if is_field_of_live(run, fault) => {

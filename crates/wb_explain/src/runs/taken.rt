@@ -7,19 +7,50 @@ use std::fmt;
 use std::fmt::{Display, Formatter, Write};
 use wb_history::{By, Ended, Life, Stay, Taken, WatchedRun};
 
-/// What to do about an item that a body takes from its caller.
-pub const TAKEN_FROM_CALLER: &str =
-    "a body takes off only as many items as it pushed itself; `popcheck` makes sure that no other item comes off";
+/// Returns what to do about an item that a body took from its caller. That `popcheck` helps is said only of a body that pushed an item
+/// itself: a pointer that such a body didn't push may be the pointer of its caller's item.
+pub fn cure_of_taken(page: &ScriptPage<'_>, run: &WatchedRun<'_>) -> &'static str {
+    match run.history.items.of_caller {
+        Some(taken) if passed_push(page, taken, run).is_some() => {
+            "a body takes off only as many items as it pushed itself: on the way that passes over the push, pop one item fewer"
+        }
+        Some(Taken { body, .. }) if body.most <= body.began => {
+            "a body takes off only as many items as it pushed itself"
+        }
+        _ =>
+            "a body takes off only as many items as it pushed itself; `popcheck` makes sure that no other item comes off",
+    }
+}
 
-/// Says which line took off an item of a calling body, and how many items the line's own body began with and left.
+/// The last line that pushes an item above the line that took off an item of a calling body, in the same body, if this body had pushed
+/// nothing until then. `None` if there is no such line, or if the body had pushed an item, or may have done so after it had taken another.
+fn passed_push(page: &ScriptPage<'_>, taken: Taken, run: &WatchedRun<'_>) -> Option<u32> {
+    let Taken { line, body, .. } = taken;
+    if body.most != body.began || body.ended.saturating_add(1) != body.began {
+        return None;
+    }
+    let bodies = &run.history.bodies;
+    let own = bodies.body_of(line);
+    let mut push = None;
+    for at in own.line..line {
+        if matches!(page.word(at, 0), "push" | "pushobj" | "pushop") && bodies.body_of(at) == own {
+            push = Some(at);
+        }
+    }
+    push
+}
+
+/// Says which line took off an item of a calling body, and how many items the line's own body began with and left. Says also which line
+/// that pushes an item was passed over before, if known.
 pub fn put_of_caller(
     page: &mut ScriptPage<'_>,
     taken: Option<Taken>,
     run: &WatchedRun<'_>,
 ) -> Written {
-    let Some(Taken { line, pushed, body }) = taken else {
+    let Some(taken) = taken else {
         return Ok(());
     };
+    let Taken { line, pushed, body } = taken;
     page.tell_unordered();
     let (caller, name) = (body_name(page, pushed, run), body_name(page, line, run));
     let (began, ended) = (items(body.began), body.ended);
@@ -29,7 +60,15 @@ pub fn put_of_caller(
         format_args!(
             "this took off the item that line {pushed} had pushed, in `{caller}`: `{name}` began with {began} on the cleanup stack, and this left {ended}"
         ),
-    )
+    )?;
+    match passed_push(page, taken, run) {
+        Some(push) => page.mark_new(
+            push,
+            0,
+            format_args!("`{name}` passed this over, and had pushed no item before line {line}"),
+        ),
+        None => Ok(()),
+    }
 }
 
 /// Says how many items a body began with and left to its caller. Also says which line then took off one of the left items, if known.
