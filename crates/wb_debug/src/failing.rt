@@ -1,8 +1,8 @@
 //! How to set which attempts fail: by the run's rule and by the script's own setting. Each call replaces the earlier rule or the earlier
 //! setting.
 
-ghost use Rattle.std.specs.Prelude.{◌≡◌, ◌≤◌, false};
-ghost use Rattle.wb_heap_model.specs.Debug.{IsSoundDebug, keeps_rises, with_setting};
+ghost use Rattle.std.specs.Prelude.{◌≡◌, ◌≤◌};
+ghost use Rattle.wb_heap_model.specs.Debug.{IsSoundDebug, with_setting};
 ghost use Rattle.wb_heap_model.specs.SameRules.{SameSoFar};
 ghost use Rattle.wb_heap_model.specs.Rules.{each, never, next};
 
@@ -11,11 +11,9 @@ use crate::setting::Setting;
 use wb_heap_model::heap::Rule;
 
 impl DebugHeap {
-    /// Replaces the rule for all later attempts; the script's own setting and everything else stay. The heap must have been made by `new`.
-    /// Neither the old rule nor the new rule may be a limit. For each attempt made so far, both rules must agree on whether the attempt
+    /// Replaces the rule for all later attempts; the script's own setting and everything else stay. Neither the old rule nor the new rule may be a limit. For each attempt made so far, both rules must agree on whether the attempt
     /// fails. So the heap is as if it had been made under the new rule. Source: this project's profile.
     pub fn set_rule(&mut self, rule: Rule)
-        requires lines { keeps_rises self.old ≡ false }
         requires same { SameSoFar rule self.old.rule self.old.attempts }
         ensures set { self.new ≡ record self.old { rule = rule } }
         ensures sound { IsSoundDebug self.new }

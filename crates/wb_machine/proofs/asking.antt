@@ -2,7 +2,6 @@
 pub mod Asked
 pub mod AskedPieces
 pub mod Counted
-pub mod KeptRises
 pub mod Later
 pub mod Made
 pub mod NextMade

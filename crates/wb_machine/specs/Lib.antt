@@ -27,6 +27,5 @@ pub mod TextOperands
 pub mod TextInvariant
 pub mod TextStatements
 pub mod Results
-pub mod TurnSteps
 pub mod Turns
 pub mod Whole

@@ -5,8 +5,6 @@ use Rattle.wb_heap_model.specs.declared.heap.Header.{Header}
 use Rattle.wb_heap_model.specs.declared.heap.Rule.{Rule}
 use Rattle.wb_heap_model.specs.declared.heap.Shape.{Shape}
 use Rattle.wb_tree.specs.declared.script.Script.{Script}
-use Rattle.wb_heap_model.specs.declared.size.Rise.{Rise}
-use Rattle.wb_heap_model.specs.Rises.{first_rises}
 use Rattle.wb_meaning.specs.Run.{WholeRun, whole_run}
 use Rattle.wb_heap_model.specs.Space.{space_of}
 
@@ -48,10 +46,6 @@ pub record Seen : Type 0 where
   pub failed : Bool
   -- it keeps the rises, in the place of a line for each attempt
   pub keeps_rises : Bool
-  -- the rises that it keeps; `None` where it keeps lines
-  pub rises : Option (List Rise)
-  -- these once the next turn is taken, if it finds memory
-  pub next_rises : Option (List Rise)
 
 -- before the first turn
 abbrev pub seen_at_start : Bool → Script → Rule → ℕ → Shape → Seen
@@ -76,8 +70,6 @@ seen_at_start keeps_rises script rule budget shape = record {
   asks = true;
   failed = false;
   keeps_rises = keeps_rises;
-  rises = first_rises keeps_rises;
-  next_rises = (whole_run keeps_rises script rule 0 shape).rises;
 }
 
 -- what the whole run comes to

@@ -28,8 +28,6 @@ pub record TurnLeaves (turn : Turn) (old new : Seen) : Type 0 where
   -- it makes the attempt that it asks for, unless the ceiling cuts the run
   pub made : MakesAsked old.asks new.met_ceiling old.attempts new.attempts
   pub ceiling : new.met_ceiling ≡ true → new.over ≡ true
-  -- the rises are those of the run up to the end of this turn
-  pub rises : new.rises ≡ old.next_rises
   pub ended : (turn ≡ Ended) ↔ (new.over ≡ true)
   pub line : new.line ≡ line_after old
 

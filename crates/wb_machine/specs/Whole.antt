@@ -7,13 +7,13 @@ use Rattle.wb_heap_model.specs.Debug.{keeps_rises}
 use Rattle.wb_heap_model.specs.Row.{headers}
 use Rattle.wb_meaning.specs.Run.{WholeRun, whole_run}
 use Rattle.wb_heap_model.specs.SameRules.{Fits}
+use Rattle.wb_heap_model.specs.Space.{is_shape}
 use Rattle.wb_meaning.specs.Rest.{Progress, next_line}
 use Rattle.wb_machine.specs.declared.machine.Machine.TheInside.{Inside}
 use Rattle.wb_machine.specs.RunState.{state_of}
 use Rattle.wb_machine.specs.Asks.{asks_next}
 use Rattle.wb_machine.specs.Depths.{open_traps_in}
 use Rattle.wb_machine.specs.BetweenTurns.{IsBetweenTurns}
-use Rattle.wb_machine.specs.TurnSteps.{steps_after}
 use Rattle.wb_machine.specs.Seen.{Seen}
 use Rattle.wb_machine.specs.Flow.{is_stop, is_over, has_met_ceiling, pending_in, progress_of, rest_at}
 use Rattle.wb_machine.specs.Results.{leaks_at_end}
@@ -28,10 +28,6 @@ has_failed m = is_some m.failed
 
 abbrev pub progress_in : Inside → Progress
 progress_in m = progress_of m.begun m.control.ending (pending_in m.state.callers m.control.pieces.items) (state_of m.script.now m.state)
-
--- what the run comes to, were it cut at the end of the next turn
-abbrev pub run_to_next : Inside → WholeRun
-run_to_next m = rest_at m.script.now (steps_after m.begun m.state.steps m.budget) m.state.debug.rule m.begun m.control.ending m.control.pieces.items m.state
 
 abbrev pub seen : Inside → Seen
 seen m = record {
@@ -55,8 +51,6 @@ seen m = record {
   asks = not (has_failed m) && asks_next m.script.now m.budget (progress_in m);
   failed = has_failed m;
   keeps_rises = keeps_rises m.state.debug;
-  rises = m.state.debug.rises;
-  next_rises = (run_to_next m).rises;
 }
 
 -- Rest: what the pending pieces give from the state on
@@ -66,7 +60,10 @@ rest_in r m = rest_at m.script.now m.budget r m.begun m.control.ending m.control
 -- a machine whose memory hasn't run out
 pub record IsSound (m : Inside) : Type 0 where
   pub script : is_script m.script.now ≡ true
+  pub least : 1 ≤ m.budget
   pub small : m.budget ≤ LARGEST_BUDGET
+  pub shape : m.shape ≡ m.state.debug.shape
+  pub shaped : is_shape m.shape ≡ true
   pub between : IsBetweenTurns m.script.now m.budget m.begun m.control.ending m.control.pieces.items m.state
   -- no statement was begun yet
   pub no_line : m.begun ≡ false → m.control.line ≡ 0

@@ -7,10 +7,11 @@ ghost use Rattle.wb_meaning.specs.declared.run.Why.TheVariants.{Ceiling};
 ghost use Rattle.wb_machine.specs.Seen.{whole_run_of};
 
 use crate::machine::Machine;
+use crate::state::outcome_by;
 use wb_basics::memory::NoMemory;
 use wb_debug::Heap;
 use wb_meaning::progress::{Silent, StepProgress};
-use wb_meaning::run::{RisesResult, RunResult};
+use wb_meaning::run::{Outcome, RisesResult, RunResult};
 
 /// What remains of a run.
 #[derive(Drop)]
@@ -19,6 +20,13 @@ pub struct Finished {
     pub result: RunResult,
     /// The heap of the run. A copy of another machine may take the memory of this heap.
     pub heap: Heap,
+}
+
+/// How a run ended.
+#[derive(Debug, Drop)]
+pub struct RunEnded {
+    pub outcome: Outcome,
+    pub steps: u32,
 }
 
 impl<'a> Machine<'a> {
@@ -52,6 +60,23 @@ impl<'a> Machine<'a> {
         Ok(self.into_finished())
     }
 
+    /// How a run that is over ended, whether the machine keeps a trace or its rises. Both parts are exactly those that the definitions give
+    /// for the whole run under the machine's rule. Asks for memory only if the run has leaks.
+    pub fn ended(&self) -> Result<RunEnded, NoMemory>
+        requires over { self.now.over ≡ true }
+        requires well { self.now.failed ≡ false }
+        ensures outcome { IfOk result (λ ended. ended.outcome
+            ≡ (run self.now.script self.now.rule self.now.budget self.now.shape).outcome) }
+        ensures steps { IfOk result (λ ended. ended.steps
+            ≡ (run self.now.script self.now.rule self.now.budget self.now.shape).steps) }
+    {
+        let leaks = self.leaks.try_copy()?;
+        Ok(RunEnded {
+            outcome: outcome_by(self.control.ending(), leaks),
+            steps: self.state.steps(),
+        })
+    }
+
     /// The result of a run that is over, if the machine keeps a trace. The result is exactly what the definitions say of the script, the
     /// rule, the budget and the shape. The trace has a line for each attempt, and at most one line more than the budget has steps.
     pub fn result(self) -> RunResult
@@ -78,8 +103,10 @@ impl<'a> Machine<'a> {
         ensures ceiling { (self.entry.met_ceiling ≡ true) ↔ (result.result.outcome ≡ Cut Ceiling) }
     {
         let Machine {
+            alloc: _,
             script: _,
             budget: _,
+            shape: _,
             begun: _,
             control,
             state,
@@ -92,8 +119,10 @@ impl<'a> Machine<'a> {
     /// Gives the run up and returns its heap, so that a copy of another machine can take the heap's memory.
     pub fn into_heap(self) -> Heap {
         let Machine {
+            alloc: _,
             script: _,
             budget: _,
+            shape: _,
             begun: _,
             control: _,
             state,
@@ -113,8 +142,10 @@ impl<'a> Machine<'a> {
             (run self.entry.script self.entry.rule self.entry.budget self.entry.shape) }
     {
         let Machine {
+            alloc: _,
             script: _,
             budget: _,
+            shape: _,
             begun: _,
             control,
             state,

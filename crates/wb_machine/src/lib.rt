@@ -2,6 +2,7 @@
 #![tactic(auto)]
 
 mod alike;
+mod another_run;
 mod arguments;
 mod asks;
 mod bodies;
@@ -39,7 +40,7 @@ mod windows;
 mod words;
 
 pub use fault::RunFault;
-pub use finished::Finished;
+pub use finished::{Finished, RunEnded};
 pub use machine::{Machine, Turn, run, run_reporting, run_rises};
 pub use raiser::{Raised, Raiser};
 pub use wb_basics::memory::NoMemory;

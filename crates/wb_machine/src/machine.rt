@@ -44,8 +44,10 @@ pub enum Turn {
 /// A run under way.
 #[derive(Drop)]
 pub struct Machine<'a> {
+    pub(crate) alloc: Global,
     pub(crate) script: &'a Script,
     pub(crate) budget: u32,
+    pub(crate) shape: Shape,
     pub(crate) begun: bool,
     pub(crate) control: Control<'a>,
     pub(crate) state: State,
@@ -87,7 +89,8 @@ impl<'a> Machine<'a> {
         ensures shape { (result ≡ Err RunFault.BadShape) ↔ (is_shape shape ≡ false) }
         ensures seen { IfOk result (λ m. m ≡ seen_at_start false script.now rule budget shape) }
     {
-        Ok(at_start(alloc, script, budget, State::new(alloc, rule, shape)?))
+        let state = State::new(alloc, rule, shape)?;
+        Ok(at_start(alloc, script, budget, shape, state))
     }
 
     /// A machine at the start of a run without a limit. The machine keeps no trace. Instead, it keeps the rises: the granted attempts whose
@@ -107,7 +110,8 @@ impl<'a> Machine<'a> {
         ensures shape { (result ≡ Err RunFault.BadShape) ↔ (is_shape shape ≡ false) }
         ensures seen { IfOk result (λ m. m ≡ seen_at_start true script.now Unlimited budget shape) }
     {
-        Ok(at_start(alloc, script, budget, State::new_rises(alloc, shape)?))
+        let state = State::new_rises(alloc, shape)?;
+        Ok(at_start(alloc, script, budget, shape, state))
     }
 
     /// Takes the next turn.
@@ -167,8 +171,10 @@ impl<'a> Machine<'a> {
         ensures { IfOk result (λ copy. copy ≡ self.now) }
     {
         Ok(Machine {
+            alloc: self.alloc,
             script: self.script,
             budget: self.budget,
+            shape: self.shape,
             begun: self.begun,
             control: self.control.try_copy()?,
             state: self.state.try_copy_over(spare)?,
@@ -178,10 +184,8 @@ impl<'a> Machine<'a> {
     }
 
     /// Continues the run under another rule. Neither the old rule nor the new rule may be a limit, and both rules must agree on which of
-    /// the attempts made so far fail. So the run comes to the same result as a run that is under the new rule from the start. The machine
-    /// must keep a trace.
+    /// the attempts made so far fail. So the run comes to the same result as a run that is under the new rule from the start.
     pub fn set_rule(&mut self, rule: Rule)
-        requires lines { self.old.keeps_rises ≡ false }
         requires same { SameSoFar rule self.old.rule self.old.attempts }
         requires going { self.old.over ≡ false }
         requires well { self.old.failed ≡ false }
@@ -253,10 +257,7 @@ impl<'a> Machine<'a> {
 
     /// Takes all turns that are left. If the machine returned `NoMemory` before, takes no turn and returns `NoMemory` again. `progress` is
     /// notified of the steps taken.
-    pub(crate) fn take_all_turns<P: StepProgress>(
-        &mut self,
-        progress: &mut P,
-    ) -> Result<(), NoMemory>
+    pub fn take_all_turns<P: StepProgress>(&mut self, progress: &mut P) -> Result<(), NoMemory>
         ensures same { IsSameRun self.old self.new }
         ensures over { OnOk result (self.new.over ≡ true) }
         ensures well { OnOk result (self.new.failed ≡ false) }
@@ -269,18 +270,28 @@ impl<'a> Machine<'a> {
 }
 
 /// The machine at the start of a run, with a state in which nothing has been done yet.
-fn at_start<'a>(alloc: Global, script: &'a Script, budget: u32, state: State) -> Machine<'a>
+fn at_start<'a>(
+    alloc: Global,
+    script: &'a Script,
+    budget: u32,
+    shape: Shape,
+    state: State,
+) -> Machine<'a>
     requires script { IsTrue (is_script script.now) }
     requires greatest { budget ≤ LARGEST_BUDGET }
     requires least { 1 ≤ budget }
+    requires shaped { IsTrue (is_shape shape) }
+    requires shape { shape ≡ state.debug.shape }
     requires start { state
         ≡ first_state (keeps_rises state.debug) state.debug.rule state.debug.shape }
     ensures { result ≡ seen_at_start (keeps_rises state.debug) script.now state.debug.rule budget
         state.debug.shape }
 {
     Machine {
+        alloc,
         script,
         budget,
+        shape,
         begun: false,
         control: Control::new(alloc),
         state,

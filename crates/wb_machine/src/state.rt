@@ -115,7 +115,6 @@ impl State {
     /// Sets another rule for the attempts to come. Neither the old rule nor the new rule may be a limit, and both rules must agree on which
     /// of the attempts made so far fail.
     pub fn set_rule(&mut self, rule: Rule)
-        requires lines { keeps_rises self.old.debug ≡ false }
         requires same { SameSoFar rule self.old.debug.rule self.old.debug.attempts }
         ensures { self.new ≡ record self.old { debug = record self.old.debug { rule = rule } } }
     {
@@ -347,7 +346,7 @@ fn over_heap(alloc: Global, heap: DebugHeap) -> State
 }
 
 /// The outcome of a run with this ending. The outcome lists the leaks unless the run was stopped by a panic, a cut or a failed attempt 1.
-fn outcome_by(ending: Ending, leaks: Leaks) -> Outcome
+pub fn outcome_by(ending: Ending, leaks: Leaks) -> Outcome
     ensures { result ≡ outcome_by ending leaks }
 {
     match ending {

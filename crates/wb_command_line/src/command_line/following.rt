@@ -44,14 +44,14 @@ pub(super) fn with_following<'a>(
                 value: "N",
                 least: 1,
                 most: MOST_FOLLOWED,
-                help: help.follow_steps.as_str(),
+                help: help.follow.steps.as_str(),
             },
             NumberOption {
                 name: "follow-around",
                 value: "N",
                 least: FIRST_ATTEMPT,
                 most: CEILING,
-                help: help.follow_around.as_str(),
+                help: help.follow.around.as_str(),
             },
         ],
     )

@@ -19,26 +19,37 @@ use wb_basics::limits::{
 /// one.
 #[derive(Drop)]
 pub(crate) struct NumberHelp {
+    pub rules: RuleHelp,
+    pub follow: FollowHelp,
+    pub search: SearchHelp,
+    pub bounds: BoundHelp,
+}
+
+impl NumberHelp {
+    pub(crate) fn new(alloc: Global) -> Result<NumberHelp, AllocError> {
+        Ok(NumberHelp {
+            rules: RuleHelp::new(alloc)?,
+            follow: FollowHelp::new(alloc)?,
+            search: SearchHelp::new(alloc)?,
+            bounds: BoundHelp::new(alloc)?,
+        })
+    }
+}
+
+/// The help on the options of `run` that make attempts fail.
+#[derive(Drop)]
+pub(crate) struct RuleHelp {
     pub limit: String,
     pub fail: String,
     pub also: String,
     pub every: String,
     pub fail_from: String,
     pub set: String,
-    pub follow_steps: String,
-    pub follow_around: String,
-    pub failures: String,
-    pub states: String,
-    pub from: String,
-    pub to: String,
-    pub budget: String,
-    pub min: String,
-    pub step: String,
 }
 
-impl NumberHelp {
-    pub(crate) fn new(alloc: Global) -> Result<NumberHelp, AllocError> {
-        Ok(NumberHelp {
+impl RuleHelp {
+    fn new(alloc: Global) -> Result<RuleHelp, AllocError> {
+        Ok(RuleHelp {
             limit: format!(in alloc;
                 "Limits the length of the heap to L bytes, from 0 to {CEILING}"
             )?,
@@ -57,13 +68,43 @@ impl NumberHelp {
             set: format!(in alloc;
                 "Makes the attempts of LIST fail: 1 to {MOST_NUMBERS} ascending numbers from 1 to {CEILING}, as in 2,3,5"
             )?,
-            follow_steps: format!(in alloc;
+        })
+    }
+}
+
+/// The help on the options that say which steps `--follow` writes.
+#[derive(Drop)]
+pub(crate) struct FollowHelp {
+    pub steps: String,
+    pub around: String,
+}
+
+impl FollowHelp {
+    fn new(alloc: Global) -> Result<FollowHelp, AllocError> {
+        Ok(FollowHelp {
+            steps: format!(in alloc;
                 "With --follow: writes the first N steps and the last N; with --follow-around: N before the attempt \
                  and N after it; N from 1 to {MOST_FOLLOWED} [default: {DEFAULT_FOLLOWED}]"
             )?,
-            follow_around: format!(in alloc;
+            around: format!(in alloc;
                 "As --follow, but for the steps around attempt N, from 1 to {CEILING}"
             )?,
+        })
+    }
+}
+
+/// The help on the options that say which failures are tried.
+#[derive(Drop)]
+pub(crate) struct SearchHelp {
+    pub failures: String,
+    pub states: String,
+    pub from: String,
+    pub to: String,
+}
+
+impl SearchHelp {
+    fn new(alloc: Global) -> Result<SearchHelp, AllocError> {
+        Ok(SearchHelp {
             failures: format!(in alloc;
                 "If no single failure leaks or panics, makes two attempts fail, then three, up to K, from 1 to \
                  {MOST_TOGETHER}, and finds the least set that does"
@@ -80,6 +121,21 @@ impl NumberHelp {
                 "Tries numbers up to J, J from 0 to {CEILING}; of pairs those with such a first number \
                  [default: {CEILING}]"
             )?,
+        })
+    }
+}
+
+/// The help on the options that all subcommands have.
+#[derive(Drop)]
+pub(crate) struct BoundHelp {
+    pub budget: String,
+    pub min: String,
+    pub step: String,
+}
+
+impl BoundHelp {
+    fn new(alloc: Global) -> Result<BoundHelp, AllocError> {
+        Ok(BoundHelp {
             budget: format!(in alloc;
                 "Most steps that a run may take, from 1 to {LARGEST_BUDGET} \
                  [default: {DEFAULT_BUDGET}]"

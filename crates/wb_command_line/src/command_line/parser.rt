@@ -183,14 +183,14 @@ fn with_rule_options<'a>(
         alloc,
         line,
         &[
-            NumberOption::up_to_ceiling("limit", "L", help.limit.as_str()),
-            NumberOption::up_to_ceiling("fail", "N", help.fail.as_str()),
-            NumberOption::up_to_ceiling("also", "J", help.also.as_str()),
-            NumberOption::up_to_ceiling("every", "N", help.every.as_str()),
-            NumberOption::up_to_ceiling("fail-from", "N", help.fail_from.as_str()),
+            NumberOption::up_to_ceiling("limit", "L", help.rules.limit.as_str()),
+            NumberOption::up_to_ceiling("fail", "N", help.rules.fail.as_str()),
+            NumberOption::up_to_ceiling("also", "J", help.rules.also.as_str()),
+            NumberOption::up_to_ceiling("every", "N", help.rules.every.as_str()),
+            NumberOption::up_to_ceiling("fail-from", "N", help.rules.fail_from.as_str()),
         ],
     )?;
-    with_argument(line, set_argument(alloc, help.set.as_str()))
+    with_argument(line, set_argument(alloc, help.rules.set.as_str()))
 }
 
 /// The subcommand with the options that say which numbers are tried.
@@ -208,8 +208,8 @@ fn with_part_options<'a>(
         alloc,
         line,
         &[
-            NumberOption::up_to_ceiling("from", "I", help.from.as_str()),
-            NumberOption::up_to_ceiling("to", "J", help.to.as_str()),
+            NumberOption::up_to_ceiling("from", "I", help.search.from.as_str()),
+            NumberOption::up_to_ceiling("to", "J", help.search.to.as_str()),
         ],
     )
 }
@@ -234,21 +234,21 @@ fn with_shared_options<'a>(
                 value: "B",
                 least: 1,
                 most: LARGEST_BUDGET,
-                help: help.budget.as_str(),
+                help: help.bounds.budget.as_str(),
             },
             NumberOption {
                 name: "min",
                 value: "M",
                 least: 0,
                 most: LARGEST_MINIMUM,
-                help: help.min.as_str(),
+                help: help.bounds.min.as_str(),
             },
             NumberOption {
                 name: "step",
                 value: "G",
                 least: SMALLEST_STEP,
                 most: LARGEST_STEP,
-                help: help.step.as_str(),
+                help: help.bounds.step.as_str(),
             },
         ],
     )?;

@@ -43,7 +43,7 @@ pub(super) fn with_sets<'a>(
             value: "K",
             least: 1,
             most: MOST_TOGETHER,
-            help: help.failures.as_str(),
+            help: help.search.failures.as_str(),
         },
     )?;
     let line = with_argument(line, sets(alloc))?;
@@ -55,7 +55,7 @@ pub(super) fn with_sets<'a>(
             value: "N",
             least: LEAST_STATES,
             most: MOST_STATES,
-            help: help.states.as_str(),
+            help: help.search.states.as_str(),
         },
     )
 }

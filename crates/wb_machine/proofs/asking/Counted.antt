@@ -87,26 +87,19 @@ not_ceiling (Cut Budget) h whole is = cc
 not_ceiling (Cut Ceiling) h whole is = cc
 not_ceiling NoCleanup h whole is = cc
 
--- a run made so many attempts, kept these rises, and tells of the ceiling only where it met it
+-- a run made so many attempts, and tells of the ceiling only where it met it
 record Tells (ceiling : Bool) (h : RunState) (run_result : WholeRun) : Type 0 where
   attempts : run_result.attempts ≡ h.debug.attempts
-  rises : run_result.rises ≡ h.debug.rises
   whole : ceiling ≡ false → run_result.result.outcome ≡ outcomes.Cut Ceiling → ⊥
 
 -- at the budget, what is left adds nothing
 tells : (script : Script) (budget : ℕ) (r : Rule) (ending : Ending) (pieces : List PendingPiece) (h : RunState) → (is_over ending pieces ≡ true) ⊎ IsReady ending pieces → h.steps ≡ budget →
     Tells (has_met_ceiling ending) h (rest_from script budget r ending pieces h)
 tells script budget r ending pieces h (inl over) at =
-    subst (Tells (has_met_ceiling ending) h) (rest_over script budget r ending pieces h over) (record { attempts = refl; rises = refl; whole = not_ceiling ending h })
+    subst (Tells (has_met_ceiling ending) h) (rest_over script budget r ending pieces h over) (record { attempts = refl; whole = not_ceiling ending h })
 tells script budget r ending pieces h (inr ready) at =
     subst (Tells (has_met_ceiling ending) h) (rest_over script budget r (Cut Budget) pieces h refl ∙ rest_cut script budget r ending pieces ready.1 ready.2 h ready.0 ready.3 ready.4 at)
-    (record { attempts = refl; rises = refl; whole = λ going is. cc })
-
--- so does the rest of a run under a budget that ends with the turn that left it
-pub rises_kept : (script : Script) (budget : ℕ) (r : Rule) (ending : Ending) (pieces : List PendingPiece) (h : RunState) (run_result : WholeRun) →
-    (is_over ending pieces ≡ true) ⊎ IsReady ending pieces → h.steps ≡ budget → rest_from script budget r ending pieces h ≡ run_result → h.debug.rises ≡ run_result.rises
-rises_kept script budget r ending pieces h run_result after steps is =
-    sym (tells script budget r ending pieces h after steps).rises ∙ ap (λ (x : WholeRun). x.rises) is
+    (record { attempts = refl; whole = λ going is. cc })
 
 -- a step left this, where pieces that are done were taken off
 pub made_as_asked : (script : Script) (budget : ℕ) (r : Rule) (ending next : Ending) (pieces left : List PendingPiece) (h g : RunState) →

@@ -23,7 +23,10 @@ module _ (m : Inside) (x : Control) (items : x.pieces.items ≡ m.control.pieces
         let s = machine.sound well in
         record {
           script = s.script;
+          least = s.least;
           small = s.small;
+          shape = s.shape;
+          shaped = s.shaped;
           between = moved (λ e ps. IsBetweenTurns m.script.now m.budget m.begun e ps m.state) s.between;
           no_line = λ begun. subst (λ n. n ≡ 0) (sym line) (s.no_line begun);
           leaks = moved (λ e ps. (m.begun && is_over e ps) ≡ true → is_stop e ≡ false → m.leaks ≡ leaks_at_end m.state) s.leaks;

@@ -1,11 +1,11 @@
 -- A run that is over has come to what the definitions say of the whole run.
-use Rattle.std.proofs.Common.{◌≡◌, ◌≤◌, ◌+◌, true, false, Some, ap, ◌∙◌, sym, subst, refl, inl, arith}
+use Rattle.std.proofs.Common.{◌≡◌, ◌≤◌, ◌+◌, Bool, true, false, Some, ap, ◌∙◌, sym, subst, refl, inl, arith}
 use Rattle.wb_meaning.specs.declared.run.RisesResult.{RisesResult}
 use Rattle.wb_meaning.specs.Run.{WholeRun, rises_result_of, run, run_with_rises, whole_run}
 use Rattle.wb_heap_model.specs.Rises.{rises_above}
 use Rattle.wb_meaning.proofs.AccountLemmas.{whole-with_rises}
 use Rattle.wb_machine.specs.Flow.{is_over, rest_at}
-use Rattle.wb_machine.specs.Seen.{Seen}
+use Rattle.wb_machine.specs.Seen.{Seen, whole_run_of}
 use Rattle.wb_machine.specs.Results.{leaks_at_end, outcome_by, run_result_by, whole_by}
 use Rattle.wb_machine.specs.Whole.{has_ended, seen, IsMachine, has_failed}
 use Rattle.wb_machine.specs.declared.machine.Machine.TheInside.{Inside}
@@ -46,3 +46,18 @@ rises_over m s is machine over well measuring run_result outcome kept steps =
     ap (λ o. record run_result { outcome = o }) (outcome ∙ ap (λ (x : WholeRun). x.result.outcome) whole)
     ∙ ap (λ rs. record { outcome = ran.outcome; rises = rs; steps = run_result.steps }) rises
     ∙ ap (λ n. record { outcome = ran.outcome; rises = rises_above 0 ran.trace; steps = n }) (steps ∙ ap (λ (x : WholeRun). x.result.steps) whole)
+
+-- the outcome and the steps are the same, whatever a run keeps
+pub outcome_of_whole : (s : Seen) → (whole_run_of s).result.outcome ≡ (run s.script s.rule s.budget s.shape).outcome
+outcome_of_whole s = by s.keeps_rises
+  where
+    by : (keeps : Bool) → (whole_run keeps s.script s.rule s.budget s.shape).result.outcome ≡ (run s.script s.rule s.budget s.shape).outcome
+    by false = refl
+    by true = ap (λ (x : WholeRun). x.result.outcome) (whole-with_rises s.script s.rule s.budget s.shape)
+
+pub steps_of_whole : (s : Seen) → (whole_run_of s).result.steps ≡ (run s.script s.rule s.budget s.shape).steps
+steps_of_whole s = by s.keeps_rises
+  where
+    by : (keeps : Bool) → (whole_run keeps s.script s.rule s.budget s.shape).result.steps ≡ (run s.script s.rule s.budget s.shape).steps
+    by false = refl
+    by true = ap (λ (x : WholeRun). x.result.steps) (whole-with_rises s.script s.rule s.budget s.shape)

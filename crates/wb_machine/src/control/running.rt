@@ -15,7 +15,6 @@ ghost use Rattle.wb_machine.specs.Flow.{pending_in, is_over, has_met_ceiling, pr
 ghost use Rattle.wb_machine.specs.Flow.{IsReady, rest_from, rest_at};
 ghost use Rattle.wb_machine.specs.Asks.{asks_next, MakesAsked};
 ghost use Rattle.wb_machine.specs.Owed.{Stays};
-ghost use Rattle.wb_machine.specs.TurnSteps.{steps_after};
 
 use crate::control::Control;
 use crate::pieces::Ending;
@@ -73,9 +72,6 @@ impl<'a> Control<'a> {
             (progress_of begun self.old.ending (pending_in state.old.callers self.old.pieces.items)
             (state_of script.now state.old))) (has_met_ceiling self.new.ending)
             state.old.debug.attempts state.new.debug.attempts) }
-        ensures rises { OnOk result (state.new.debug.rises
-            ≡ (rest_at script.now (steps_after begun state.old.steps budget) state.old.debug.rule
-            begun self.old.ending self.old.pieces.items state.old).rises) }
         ensures later { OnOk result (begun ≡ true →
             state.new.steps ≡ min (state.old.steps + 1) budget) }
         ensures steps { OnOk result (begun ≡ true →

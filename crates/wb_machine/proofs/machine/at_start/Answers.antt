@@ -1,10 +1,8 @@
-use Rattle.std.proofs.Common.{rules, ◌≡◌, false, refl, ap, sym, subst, arith}
-use Rattle.wb_heap_model.specs.Debug.{keeps_rises}
-use Rattle.wb_meaning.specs.Run.{WholeRun, whole_run}
+use Rattle.std.proofs.Common.{◌≡◌, ap, sym, subst, arith}
 use Rattle.std.proofs.lemmas.List.Elements.{All-nil}
 use Rattle.wb_machine.specs.RunState.{RunState}
 use Rattle.wb_machine.specs.ObjectInvariant.{AreWhole}
-use Rattle.wb_machine.specs.Flow.{AreSound, IsFirst, rest_at}
+use Rattle.wb_machine.specs.Flow.{AreSound, IsFirst}
 use Rattle.wb_machine.proofs.turns.FirstTurn.{rest_first}
 use Rattle.wb_machine.proofs.whole_runs.Fitting.{fits-limit}
 use Rattle.wb_machine.proofs.machine.at_start.Goals as goal
@@ -18,7 +16,10 @@ invariant_of-result c =
     record {
       sound = λ well. record {
         script = c.requires.script;
+        least = c.requires.least;
         small = c.requires.greatest;
+        shape = c.requires.shape;
+        shaped = c.requires.shaped;
         between = record {
           within = omega (arith, ap (λ x. x.steps) start);
           counted = omega (arith, ap (λ x. x.debug.attempts) start);
@@ -35,12 +36,3 @@ invariant_of-result c =
       };
       keeps = λ well r f. rest_first r script c.args.budget c.new.result.ending c.new.result.pieces.items h start (fits-limit r h.debug.rule _ _ f);
     }
-
--- what the first turn leaves is what the run comes to that is cut before its first step
-pub returns : goal.returns
-returns c =
-    let script = c.args.script.now in
-    let h = c.args.state in
-    let next : (rest_at script 0 h.debug.rule false c.new.result.ending c.new.result.pieces.items h).rises ≡ (whole_run (keeps_rises h.debug) script h.debug.rule 0 h.debug.shape).rises =
-    ap (λ (x : WholeRun). x.rises) (rest_first h.debug.rule script 0 c.new.result.ending c.new.result.pieces.items h c.requires.start refl) in
-    search (rules, next)

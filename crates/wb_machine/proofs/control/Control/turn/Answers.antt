@@ -10,11 +10,10 @@ use Rattle.wb_machine.specs.Flow.{pending_in, is_stop, is_over, has_met_ceiling,
 use Rattle.wb_machine.specs.ObjectInvariant.{AreWhole}
 use Rattle.wb_machine.proofs.asking.AskedPieces.{settled_cut}
 use Rattle.wb_machine.proofs.turns.FirstTurn.{rest_first}
-use Rattle.wb_machine.proofs.asking.Counted.{made_as_asked, rises_kept}
+use Rattle.wb_machine.proofs.asking.Counted.{made_as_asked}
 use Rattle.wb_machine.proofs.whole_runs.Fitting.{fits-limit, fits-before, going_on}
 use Rattle.wb_machine.proofs.control.Control.turn.Goals.{then-not-begun+in_ok-begin, else-not-begun+then-steps-budget+in_ok-step, else-not-begun+else-steps-budget}
 use Rattle.std.specs.Prelude.{min}
-use Rattle.wb_machine.specs.TurnSteps.{steps_after}
 use Rattle.wb_machine.specs.SlotInvariant.{HasRoom}
 use Rattle.wb_machine.proofs.kept.SlotsKept.{moved_room, stop_room}
 use Rattle.wb_machine.proofs.control.Control.turn.Goals as goal
@@ -177,46 +176,3 @@ returns-clause-between c = record {
   room = λ e. room c;
   whole = whole c;
 }
-
--- the rises, by the rest of a run that is cut where the turn ends
-pub returns-clause-rises : goal.returns-clause-rises
-returns-clause-rises c =
-    let script = c.args.script.now in
-    let budget = c.args.budget in
-    let own = c.args.state.now.debug.rule in
-    let old = c.args.self.now in
-    let h = c.args.state.now in
-    let mid = c.if-not-begun.self in
-    let g = c.if-not-begun.state in
-    let next = c.settle.new.self in
-    let after = c.settle.new.state in
-    let quiet = c.in_ok-settle.ensures.quiet in
-    let kept = c.in_ok-settle.ensures.kept script own in
-    let settled = c.in_ok-settle.ensures.settled in
-    elim c.if-not-begun.branch [
-      | then-not-begun+in_ok-begin w ↦
-          let none : g.steps ≡ 0 = ap (λ (x : RunState). x.steps) w.state-is ∙ w.in_ok-begin.ensures.steps in
-          let run = kept 0 (omega (arith, none))
-          ∙ moved_on script 0 own own w.begin.new.self mid w.begin.new.state g _ w.self-is w.state-is (inl refl) (λ f'. w.in_ok-begin.ensures.kept own 0 f')
-          ∙ sym (rest_first own script 0 old.ending old.pieces.items h (c.requires.between.first w.if-not-begun.true).start refl) in
-          rises_kept script 0 own next.ending next.pieces.items after _ settled (omega (arith, quiet.steps, none)) run
-          ∙ sym (ap (λ b. (rest_at script (steps_after b h.steps budget) own b old.ending old.pieces.items h).rises) w.if-not-begun.true)
-      | else-not-begun+then-steps-budget+in_ok-step w ↦
-          let less : h.steps < budget = omega (arith, w.if-steps-budget.true, w.steps.ensures) in
-          let taken : g.steps ≡ h.steps + 1 = ap (λ (x : RunState). x.steps) w.state-is ∙ w.in_ok-step.ensures.steps in
-          let run = kept (h.steps + 1) (omega (arith, taken))
-          ∙ moved_on script (h.steps + 1) own own w.step.new.self mid w.step.new.state g _ w.self-is w.state-is (inl refl) (λ f'. w.in_ok-step.ensures.kept own (h.steps + 1) (omega arith) f') in
-          let last : min (h.steps + 1) budget ≡ h.steps + 1 = omega (arith, less) in
-          rises_kept script (h.steps + 1) own next.ending next.pieces.items after _ settled (omega (arith, quiet.steps, taken)) run
-          ∙ sym (ap (λ b. (rest_at script (steps_after b h.steps budget) own b old.ending old.pieces.items h).rises) w.if-not-begun.false
-          ∙ ap (λ n. (rest_from script n own old.ending old.pieces.items h).rises) last)
-      | else-not-begun+else-steps-budget w ↦
-          let at : h.steps ≡ budget = omega (arith, w.if-steps-budget.false, w.steps.ensures, c.requires.between.within) in
-          let same : g.steps ≡ h.steps = ap (λ (x : RunState). x.steps) w.state-is in
-          let run = kept budget (omega (arith, same, at))
-          ∙ moved_on script budget own own w.cut.new.self mid h g _ w.self-is w.state-is (inl refl) (λ f'. w.cut.ensures.kept script own budget h at) in
-          let last : min (h.steps + 1) budget ≡ budget = omega (arith, at) in
-          rises_kept script budget own next.ending next.pieces.items after _ settled (omega (arith, quiet.steps, same, at)) run
-          ∙ sym (ap (λ b. (rest_at script (steps_after b h.steps budget) own b old.ending old.pieces.items h).rises) w.if-not-begun.false
-          ∙ ap (λ n. (rest_from script n own old.ending old.pieces.items h).rises) last)
-    ]

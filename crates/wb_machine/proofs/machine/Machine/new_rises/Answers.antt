@@ -7,4 +7,4 @@ use Rattle.wb_machine.proofs.machine.Machine.new_rises.Goals as goal
 pub returns-clause-seen : goal.returns-clause-seen
 returns-clause-seen c =
     c.at_start.ensures
-    ∙ ap (λ (x : RunState). seen_at_start (keeps_rises x.debug) c.args.script.now x.debug.rule c.args.budget x.debug.shape) c.in_ok-new_rises.ensures.ok
+    ∙ ap (λ (x : RunState). seen_at_start (keeps_rises x.debug) c.args.script.now x.debug.rule c.args.budget x.debug.shape) c.in_ok-state.ensures.ok

@@ -1,15 +1,18 @@
-use Rattle.std.proofs.Common.{rules, ◌≡◌, ℕ, ap, ◌∙◌, sym, subst, Bool, true, false}
+use Rattle.std.proofs.Common.{rules, ◌≡◌, ℕ, ap, ◌∙◌, sym, subst, refl, Bool, true, false, List, [], ◌∷◌, None}
 use Rattle.wb_heap_model.specs.SameRules.{Fits}
-use Rattle.std.specs.Prelude.{not, ◌&&◌, is_some}
+use Rattle.std.specs.Prelude.{not, ◌&&◌, is_some, nat_lt, unwrap_or, if◌then◌else◌}
 use Rattle.wb_heap_model.specs.Debug.{keeps_rises}
+use Rattle.wb_meaning.specs.Rest.{next_line}
 use Rattle.wb_meaning.specs.Run.{whole_run}
+use Rattle.wb_tree.specs.declared.script.Script.{Script}
 use Rattle.wb_machine.specs.Asks.{asks_next}
-use Rattle.wb_machine.specs.Flow.{is_stop, is_over, pending_in, progress_of, rest_at}
-use Rattle.wb_machine.specs.RunState.{state_of}
+use Rattle.wb_machine.specs.declared.pieces.Ending.{Ending}
+use Rattle.wb_machine.specs.declared.pieces.Ending.TheVariants.{GoesOn, Returns, Leaves, Panics, Cut, NoCleanup}
+use Rattle.wb_machine.specs.declared.pieces.PendingPiece.{PendingPiece}
+use Rattle.wb_machine.specs.Flow.{is_stop, is_over, pending_in, progress_of}
+use Rattle.wb_machine.specs.RunState.{RunState, state_of}
 use Rattle.wb_machine.specs.Seen.{Seen}
-use Rattle.wb_machine.specs.TurnSteps.{steps_after}
-use Rattle.wb_machine.specs.Whole.{has_ended, run_to_next, has_failed}
-use Rattle.wb_machine.proofs.asking.KeptRises.{over_rises}
+use Rattle.wb_machine.specs.Whole.{has_ended, has_failed}
 use Rattle.wb_machine.proofs.asking.AskedPieces.{over_asks}
 use Rattle.wb_machine.proofs.whole_runs.Fitting.{fits-before}
 use Rattle.wb_machine.proofs.machine.Machine.step.Goals.{else-self-via-then-self+else-is_over, else-self-via-else-self}
@@ -30,7 +33,10 @@ invariant_of-self-then-not-is_over c =
     record {
       sound = λ well. record {
         script = old.script;
+        least = old.least;
         small = old.small;
+        shape = old.shape ∙ sym turn.stays.shape;
+        shaped = old.shaped;
         between = turn.between;
         no_line = λ e. cc;
         leaks = λ e goes. let clash : false ≡ true = sym c.if-not-is_over.true ∙ c.is_over-2.ensures ∙ e in cc;
@@ -58,7 +64,10 @@ invariant_of-self-in_default-list_leaks c =
     record {
       sound = λ well. record {
         script = old.script;
+        least = old.least;
         small = old.small;
+        shape = old.shape ∙ sym turn.stays.shape;
+        shaped = old.shaped;
         between = turn.between;
         no_line = λ e. cc;
         leaks = λ e goes. c.in_default-list_leaks.ensures.run_result (ap is_stop c.ending.ensures ∙ goes);
@@ -70,6 +79,23 @@ invariant_of-self-in_default-list_leaks c =
           ∙ ap (λ b. whole_run b m.script.now r m.budget m.state.debug.shape) (sym turn.stays.kept)
           ∙ ap (whole_run (keeps_rises c.turn-turned.new.state.debug) m.script.now r m.budget) (sym turn.stays.shape);
     }
+
+-- a run that is over has no statement that is to begin next
+over_next : (script : Script) (ending : Ending) (pieces : List PendingPiece) (h : RunState) → is_over ending pieces ≡ true →
+    next_line (progress_of true ending (pending_in h.callers pieces) (state_of script h)) ≡ None
+over_next script GoesOn [] h over = refl
+over_next script (Returns p) [] h over = refl
+over_next script (Leaves code) [] h over = refl
+over_next script GoesOn (p ∷ ps) h over = cc
+over_next script (Returns q) (p ∷ ps) h over = cc
+over_next script (Leaves code) (p ∷ ps) h over = cc
+over_next script (Panics p) pieces h over = refl
+over_next script (Cut why) pieces h over = refl
+over_next script NoCleanup pieces h over = refl
+
+either : (b : Bool) (n : ℕ) → (if b then n else n) ≡ n
+either true n = refl
+either false n = refl
 
 -- a run that is over asks for nothing
 pub returns-then-is_over-clause-turned : goal.returns-then-is_over-clause-turned
@@ -93,13 +119,13 @@ returns-then-is_over-clause-turned c = record {
         let clash : false ≡ true = sym never ∙ ap (λ (s : Seen). s.asks) c.self.view_is ∙ at_once in cc;
   };
   ceiling = search rules;
-  rises =
-      let m = c.self.inside in
-      let n : Bool → ℕ = λ b. steps_after b m.state.steps m.budget in
-      let next : (run_to_next m).rises ≡ m.state.debug.rises =
-      ap (λ b. (rest_at m.script.now (n b) m.state.debug.rule b m.control.ending m.control.pieces.items m.state).rises) c.if-self.true
-      ∙ over_rises m.script.now (n true) m.state.debug.rule m.control.ending m.control.pieces.items m.state (sym c.is_over.ensures ∙ c.if-is_over.true) in
-      sym (ap (λ (s : Seen). s.rises) c.self.view_is) ∙ sym next ∙ ap (λ (s : Seen). s.next_rises) c.self.view_is;
   ended = search rules;
-  line = search rules;
+  line =
+      let m = c.self.inside in
+      let s = c.args.self.now in
+      let none : s.next ≡ None =
+      sym (ap (λ (x : Seen). x.next) c.self.view_is)
+      ∙ ap (λ b. next_line (progress_of b m.control.ending (pending_in m.state.callers m.control.pieces.items) (state_of m.script.now m.state))) c.if-self.true
+      ∙ over_next m.script.now m.control.ending m.control.pieces.items m.state (sym c.is_over.ensures ∙ c.if-is_over.true) in
+      sym (ap (λ o. if s.begun && nat_lt s.steps s.budget then unwrap_or o s.line else s.line) none ∙ either (s.begun && nat_lt s.steps s.budget) s.line);
 }

@@ -30,7 +30,10 @@ invariant_of-self-in_default-list_leaks g c =
     record {
       sound = λ w. record {
         script = old.script;
+        least = old.least;
         small = old.small;
+        shape = old.shape ∙ sym turns.setting.shape;
+        shaped = old.shaped;
         between = subst (λ b. IsBetweenTurns m.script.now m.budget b control.ending control.pieces.items state) (sym begun) turns.between;
         no_line = λ e. cc;
         leaks = λ e goes. c.in_default-list_leaks.ensures.run_result (ap is_stop c.ending.ensures ∙ goes);
