@@ -15,7 +15,6 @@ on-the-way g state numbers m copy run same = subst (IsOnTheWay g numbers) (sym s
   script = run.under_way.script;
   budget = run.under_way.budget;
   shape = run.under_way.shape;
-  lines = run.under_way.lines;
   well = run.under_way.well;
   begun = run.begun;
   going = run.going;

@@ -1,23 +1,42 @@
 -- What the end of a run says of the sets that go on from it.
-use Rattle.std.proofs.Common.{◌≡◌, ℕ, ◌≤◌, arith, Bool, List, [], ◌∷◌, ◌++◌, sym, ◌∙◌, ap, subst, inl, inr}
-use Rattle.wb_machine.specs.Seen.{whole_run_of, Seen}
+use Rattle.std.proofs.Common.{◌≡◌, ℕ, ◌≤◌, ◌&&◌, not, arith, Bool, List, [], ◌∷◌, ◌++◌, Some, sym, ◌∙◌, ap, subst, inl, inr}
+use Rattle.std.specs.Prelude.{slice_get}
+use Rattle.wb_machine.specs.Seen.{Seen}
 use Rattle.wb_heap_model.specs.declared.heap.Rule.{Rule}
 use Rattle.wb_heap_model.specs.declared.heap.Rule.TheVariants.{Set}
 use Rattle.wb_heap_model.specs.declared.heap.Shape.{Shape}
 use Rattle.wb_tree.specs.declared.script.Script.{Script}
-use Rattle.wb_meaning.specs.Run.{run, whole_run}
+use Rattle.wb_meaning.specs.declared.run.Outcome.{Outcome}
+use Rattle.wb_meaning.specs.declared.run.RunResult.{RunResult}
+use Rattle.wb_meaning.specs.Run.{is_bad_outcome, run}
 use Rattle.wb_runs.specs.Sets.{IsSet}
+use Rattle.wb_runs.specs.Sweeps.{is_cut_outcome, is_fine}
 use Rattle.wb_states.specs.Ground.{past, run_of, Ground, IsTriedSet}
-use Rattle.wb_states.specs.States.{IsNoneOrTried, IsRunUnder}
+use Rattle.wb_states.specs.declared.search.Search.{Search}
+use Rattle.wb_states.specs.States.{ground_of, HasGrown, IsNoneOrTried, IsRunUnder}
 
--- what a machine's whole run comes to is the run under its set
-pub whole-of : (g : Ground) (numbers : List ℕ) (m : Seen) → IsRunUnder g numbers m → (whole_run_of m).result ≡ run_of g numbers
-whole-of g numbers m is =
-    ap (λ (b : Bool). (whole_run b m.script m.rule m.budget m.shape).result) is.lines
-    ∙ ap (λ (r : Rule). run m.script r m.budget m.shape) is.rule
+-- the run of a machine's script under a rule is the run under the set of the machine, if the rule is that set
+pub run-again : (g : Ground) (numbers : List ℕ) (m : Seen) (rule : Rule) → IsRunUnder g numbers m → rule ≡ Set numbers →
+    run m.script rule m.budget m.shape ≡ run_of g numbers
+run-again g numbers m rule is same =
+    ap (λ (r : Rule). run m.script r m.budget m.shape) same
     ∙ ap (λ (s : Script). run s (Set numbers) m.budget m.shape) is.script
     ∙ ap (λ (b : ℕ). run g.script (Set numbers) b m.shape) is.budget
     ∙ ap (λ (s : Shape). run g.script (Set numbers) g.budget s) is.shape
+
+-- a run is judged by its outcome alone
+pub judged-by : (outcome : Outcome) (run_result : RunResult) (judged : Bool) → outcome ≡ run_result.outcome →
+    judged ≡ (not (is_bad_outcome outcome) && not (is_cut_outcome outcome)) → is_fine run_result ≡ judged
+judged-by outcome run_result judged same is = ap (λ (o : Outcome). not (is_bad_outcome o) && not (is_cut_outcome o)) (sym same) ∙ sym is
+
+-- a search is the same but for the set that it shows
+pub shown-grown : (s t : Search) → t ≡ record s { shown = t.shown } → HasGrown s t
+shown-grown s t same = record {
+  ground = ap ground_of same;
+  granted = ap (λ (x : Search). x.granted) same;
+  failed = ap (λ (x : Search). x.failed) same;
+  states = λ i state at. subst (λ (x : Search). slice_get x.states i ≡ Some state) (sym same) at;
+}
 
 -- where the set of a run isn't tried, that of the run without failure, none is that goes on past its end
 pub none-goes-on : (g : Ground) (numbers : List ℕ) (attempts : ℕ) → IsNoneOrTried g numbers → (IsTriedSet g numbers → ⊥) → (numbers ≡ [] → g.last ≤ attempts) →

@@ -18,7 +18,6 @@ module _ (g : Ground) (numbers : List ℕ) (m new : Seen) (about : IsAboutTo g n
     script = same.script ∙ about.script;
     budget = same.budget ∙ about.budget;
     shape = same.shape ∙ about.shape;
-    lines = same.keeps_rises ∙ about.lines;
     well = well;
     set = about.set;
     tried = about.tried;
@@ -30,7 +29,6 @@ module _ (g : Ground) (numbers : List ℕ) (m new : Seen) (about : IsAboutTo g n
     script = same.script ∙ about.script;
     budget = same.budget ∙ about.budget;
     shape = same.shape ∙ about.shape;
-    lines = same.keeps_rises ∙ about.lines;
     well = well;
     set = about.set;
     made = subst (λ n. AreWithin n numbers) (sym made) about.made;

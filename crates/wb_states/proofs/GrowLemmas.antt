@@ -1,12 +1,12 @@
 -- What a search has found stays true as it grows: how the runs that it follows begin, and that each edge is listed for its state.
-use Rattle.std.proofs.Common.{◌≡◌, ℕ, ◌+◌, ◌≤◌, zero, suc, arith, false, List, [], ◌∷◌, ◌++◌, length, Ok, Err, is_err, OnOk, Result, Some, None, refl, sym, ◌∙◌, ap, subst, inl, inr}
+use Rattle.std.proofs.Common.{◌≡◌, ℕ, ◌+◌, ◌≤◌, zero, suc, arith, false, true, List, [], ◌∷◌, ◌++◌, length, Ok, Err, is_err, OnOk, Result, Some, None, refl, sym, ◌∙◌, ap, subst, inl, inr}
 use Rattle.std.proofs.lemmas.List.{length-append}
 use Rattle.std.proofs.lemmas.Option.{slice_get_within}
 use Rattle.std.specs.Prelude.{slice_get, IfSome}
 use Rattle.wb_machine.specs.Seen.{seen_at_start, Seen}
 use Rattle.wb_machine.proofs.asking.Made.{asked_at_start}
 use Rattle.wb_heap_model.specs.declared.heap.Rule.{Rule}
-use Rattle.wb_heap_model.specs.declared.heap.Rule.TheVariants.{Set}
+use Rattle.wb_heap_model.specs.declared.heap.Rule.TheVariants.{Set, Unlimited}
 use Rattle.wb_heap_model.specs.SameRules.{SameSoFar}
 use Rattle.wb_runs.specs.Sets.{AscendsPast, IsSet}
 use Rattle.wb_runs.proofs.SetLemmas.{ascends-first}
@@ -66,7 +66,6 @@ about-granted g state numbers fork is run same =
       script = run.under_way.script;
       budget = run.under_way.budget;
       shape = run.under_way.shape;
-      lines = run.under_way.lines;
       well = run.under_way.well;
       begun = run.begun;
       going = run.going;
@@ -85,7 +84,6 @@ about-failed g state numbers m fork run same copied tried = subst (IsAboutTo g n
   script = run.under_way.script;
   budget = run.under_way.budget;
   shape = run.under_way.shape;
-  lines = run.under_way.lines;
   well = run.under_way.well;
   begun = run.begun;
   going = run.going;
@@ -227,7 +225,7 @@ abbrev start : State
 start = record { numbers = []; attempts = 0; steps = 0; before = 0 }
 
 abbrev start-run : Ground → Seen
-start-run g = seen_at_start false g.script (Set []) g.budget g.shape
+start-run g = record (seen_at_start true g.script Unlimited g.budget g.shape) { rule = Set [] }
 
 start-runs : (g : Ground) → IsRunOf g start (start-run g)
 start-runs g = record {
@@ -236,7 +234,6 @@ start-runs g = record {
     script = refl;
     budget = refl;
     shape = refl;
-    lines = refl;
     well = refl;
     set = tt;
     made = tt;
@@ -263,6 +260,12 @@ only-run g runs m begins only i state one at kept =
     let is = only i one kept in
     let same : start ≡ state = (let first = ap (slice_get (start ∷ [])) (sym is.0) ∙ at in cc) in
     subst (λ (s : State). IsRunOf g s one) same (subst (IsRunOf g start) (sym (is.1 ∙ begins)) (start-runs g))
+
+-- no attempt was made yet, so a rule under which none fails says as much of them as no rule
+pub fits-none : (m : Seen) (numbers : List ℕ) → m.rule ≡ Unlimited → numbers ≡ [] → SameSoFar (Set numbers) m.rule m.attempts
+fits-none m numbers rule none =
+    subst (λ (ns : List ℕ). SameSoFar (Set ns) m.rule m.attempts) (sym none)
+    (subst (λ (own : Rule). SameSoFar (Set []) own m.attempts) (sym rule) (record { no_limit = refl; own_no_limit = refl; same = λ number end first made. refl }))
 
 -- what holds of a result that is no error
 pub on-ok : {T E : Type 0} (r : Result T E) (P : Type 0) → is_err r ≡ false → OnOk r P → P

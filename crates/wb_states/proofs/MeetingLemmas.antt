@@ -1,20 +1,22 @@
 -- What follows for a run that goes on like another, both under sets that lie behind them: the same further attempts fail in both.
-use Rattle.std.proofs.Common.{◌≡◌, ◌≢◌, ℕ, ◌+◌, ◌≤◌, ◌||◌, Bool, true, false, List, [], ◌∷◌, ◌++◌, refl, sym, ap, ◌∙◌, subst, arith, inr, Some, None, cond}
+use Rattle.std.proofs.Common.{◌≡◌, ◌≢◌, ℕ, ◌+◌, ◌≤◌, ◌||◌, ◌&&◌, not, Bool, true, false, List, [], ◌∷◌, ◌++◌, refl, sym, ap, ◌∙◌, subst, arith, inr, Some, None, cond}
 use Rattle.std.specs.Prelude.{nat_eq}
 use Rattle.std.proofs.lemmas.Bool.{eq-eqb, eqb-true, eqb-false, ne_eqb, true≢false}
 use Rattle.wb_machine.specs.Alike.{reached_by, whole_run_under, GoesOnLike}
 use Rattle.wb_machine.specs.Seen.{Seen}
+use Rattle.wb_machine.proofs.whole_runs.OverRuns.{outcome_of_whole, steps_of_whole}
 use Rattle.wb_heap_model.specs.declared.heap.Answer.TheVariants.{Simulated}
 use Rattle.wb_heap_model.specs.declared.heap.Rule.{Rule}
 use Rattle.wb_heap_model.specs.declared.heap.Rule.TheVariants.{Set}
 use Rattle.wb_heap_model.specs.declared.heap.Shape.{Shape}
+use Rattle.wb_meaning.specs.declared.run.Outcome.{Outcome}
 use Rattle.wb_meaning.specs.declared.run.Outcome.TheVariants.{Cut}
 use Rattle.wb_meaning.specs.declared.run.RunResult.{RunResult}
 use Rattle.wb_meaning.specs.declared.run.Why.TheVariants.{Budget}
 use Rattle.wb_tree.specs.declared.script.Script.{Script}
 use Rattle.wb_renaming.specs.Follows.{ComesToTheSame, RefusesAlike, RestsAgree}
 use Rattle.wb_heap_model.specs.SameRules.{Fits, SameSoFar}
-use Rattle.wb_meaning.specs.Run.{run, whole_run, WholeRun}
+use Rattle.wb_meaning.specs.Run.{is_bad_outcome, run, WholeRun}
 use Rattle.wb_runs.specs.Sets.{AscendsPast, IsSet}
 use Rattle.wb_runs.specs.Sweeps.{is_cut_outcome, is_fine}
 use Rattle.wb_runs.proofs.PartAnswers.{fine_is_uncut}
@@ -101,13 +103,28 @@ fits-on m set more rule going up =
 
 -- ---- what the runs come to
 
--- a run of a machine that keeps lines, under a set, is the one of its script, its budget and its shape
-run-under : (g : Ground) (m : Seen) (set numbers : List ℕ) → IsUnderWay g set m → (whole_run_under (Set numbers) m).result ≡ run_of g numbers
+-- a run is fine by its outcome alone
+abbrev is_fine_outcome : Outcome → Bool
+is_fine_outcome outcome = not (is_bad_outcome outcome) && not (is_cut_outcome outcome)
+
+-- the run of a machine's script under a set is the one of its script, its budget and its shape
+run-under : (g : Ground) (m : Seen) (set numbers : List ℕ) → IsUnderWay g set m → run m.script (Set numbers) m.budget m.shape ≡ run_of g numbers
 run-under g m set numbers is =
-    ap (λ (b : Bool). (whole_run b m.script (Set numbers) m.budget m.shape).result) is.lines
-    ∙ ap (λ (s : Script). run s (Set numbers) m.budget m.shape) is.script
+    ap (λ (s : Script). run s (Set numbers) m.budget m.shape) is.script
     ∙ ap (λ (b : ℕ). run g.script (Set numbers) b m.shape) is.budget
     ∙ ap (λ (s : Shape). run g.script (Set numbers) g.budget s) is.shape
+
+-- whatever a machine keeps of its attempts, under a set it comes to the same outcome
+outcome-under : (g : Ground) (m : Seen) (set numbers : List ℕ) → IsUnderWay g set m →
+    (whole_run_under (Set numbers) m).result.outcome ≡ (run_of g numbers).outcome
+outcome-under g m set numbers is =
+    outcome_of_whole (record m { rule = Set numbers }) ∙ ap (λ (r : RunResult). r.outcome) (run-under g m set numbers is)
+
+-- and takes as many steps
+steps-under : (g : Ground) (m : Seen) (set numbers : List ℕ) → IsUnderWay g set m →
+    (whole_run_under (Set numbers) m).result.steps ≡ (run_of g numbers).steps
+steps-under g m set numbers is =
+    steps_of_whole (record m { rule = Set numbers }) ∙ ap (λ (r : RunResult). r.steps) (run-under g m set numbers is)
 
 module _ (g : Ground) (set other : List ℕ) (fork m : Seen) (goes : GoesOnLike fork m) (fork_going : fork.over ≡ false) (m_going : m.over ≡ false)
     (fork_is : IsUnderWay g set fork) (m_is : IsUnderWay g other m) (more : List ℕ) (up : IsSet more) where
@@ -123,15 +140,14 @@ module _ (g : Ground) (set other : List ℕ) (fork m : Seen) (goes : GoesOnLike 
   abbrev known : RunResult
   known = run_of g (other ++ past m.attempts more)
 
-  forked : along.result ≡ joined
-  forked = run-under g fork set (set ++ past fork.attempts more) fork_is
+  forked : along.result.outcome ≡ joined.outcome
+  forked = outcome-under g fork set (set ++ past fork.attempts more) fork_is
 
-  ran : ahead.result ≡ known
-  ran = run-under g m other (other ++ past m.attempts more) m_is
+  ran : ahead.result.outcome ≡ known.outcome
+  ran = outcome-under g m other (other ++ past m.attempts more) m_is
 
   uncut : is_fine known ≡ true → ahead.result.outcome ≢ Cut Budget
-  uncut fine e =
-      true≢false (sym (ap is_cut_outcome (ap (λ (r : RunResult). r.outcome) (sym ran) ∙ e)) ∙ fine_is_uncut known fine)
+  uncut fine e = true≢false (sym (ap is_cut_outcome (sym ran ∙ e)) ∙ fine_is_uncut known fine)
 
   behind : RefusesAlike (Set (other ++ past m.attempts more)) (Set (set ++ past fork.attempts more)) (reached_by m) (reached_by fork)
   behind n end from =
@@ -145,11 +161,11 @@ module _ (g : Ground) (set other : List ℕ) (fork m : Seen) (goes : GoesOnLike 
 
   pub meets-with : is_fine known ≡ true → known.steps + fork.steps ≤ g.budget + m.steps → (is_fine joined ≡ true) × (joined.steps + m.steps ≡ known.steps + fork.steps)
   meets-with fine within =
-      let took = ap (λ (r : RunResult). r.steps) ran in
-      let takes = ap (λ (r : RunResult). r.steps) forked in
+      let took = steps-under g m other (other ++ past m.attempts more) m_is in
+      let takes = steps-under g fork set (set ++ past fork.attempts more) fork_is in
       let same : ComesToTheSame (reached_by m) (reached_by fork) ahead along = (agree fine).alike (omega (arith, within, took, fork_is.budget)) in
       let counted = same.steps in (
-        ap is_fine (sym forked) ∙ (judged-same ahead.result along.result same.outcome).1 ∙ ap is_fine ran ∙ fine,
+        ap is_fine_outcome (sym forked) ∙ (judged-same ahead.result along.result same.outcome).1 ∙ ap is_fine_outcome ran ∙ fine,
         omega (arith, counted, took, takes),
       )
 

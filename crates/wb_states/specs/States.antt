@@ -20,7 +20,6 @@ pub record IsUnderWay (g : Ground) (numbers : List ℕ) (m : Seen) : Type 0 wher
   pub script : m.script ≡ g.script
   pub budget : m.budget ≡ g.budget
   pub shape : m.shape ≡ g.shape
-  pub lines : m.keeps_rises ≡ false
   pub well : m.failed ≡ false
   pub set : IsSet numbers
   pub made : AreWithin m.attempts numbers
@@ -52,7 +51,6 @@ pub record IsOnTheWay (g : Ground) (numbers : List ℕ) (m : Seen) : Type 0 wher
   pub script : m.script ≡ g.script
   pub budget : m.budget ≡ g.budget
   pub shape : m.shape ≡ g.shape
-  pub lines : m.keeps_rises ≡ false
   pub well : m.failed ≡ false
   pub begun : 1 ≤ m.attempts → m.begun ≡ true
   pub going : m.over ≡ false
@@ -177,7 +175,6 @@ pub record IsRunUnder (g : Ground) (numbers : List ℕ) (m : Seen) : Type 0 wher
   pub script : m.script ≡ g.script
   pub budget : m.budget ≡ g.budget
   pub shape : m.shape ≡ g.shape
-  pub lines : m.keeps_rises ≡ false
   pub well : m.failed ≡ false
   pub set : IsSet numbers
   pub tried : IsNoneOrTried g numbers
@@ -188,7 +185,6 @@ pub record IsAboutTo (g : Ground) (numbers : List ℕ) (m : Seen) : Type 0 where
   pub script : m.script ≡ g.script
   pub budget : m.budget ≡ g.budget
   pub shape : m.shape ≡ g.shape
-  pub lines : m.keeps_rises ≡ false
   pub well : m.failed ≡ false
   pub begun : 1 ≤ m.attempts → m.begun ≡ true
   pub going : m.over ≡ false

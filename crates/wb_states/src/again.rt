@@ -63,7 +63,6 @@ fn copy_under<'a>(
     requires set { IsSet numbers.now }
     requires rule { machine.now.rule ≡ rules.Set state.now.numbers }
     requires attempts { machine.now.attempts ≡ state.now.attempts }
-    requires lines { machine.now.keeps_rises ≡ false }
     requires going { machine.now.over ≡ false }
     requires well { machine.now.failed ≡ false }
     ensures { IfOk result (λ copy. IfSome copy (λ m. m

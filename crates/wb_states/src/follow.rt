@@ -3,6 +3,7 @@
 
 ghost use Rattle.std.specs.Prelude.{◌≡◌, ℕ, ◌+◌, ◌≤◌, false, true, length, IfOk, OnOk};
 ghost use Rattle.wb_runs.specs.Sets.{IsSet};
+ghost use Rattle.wb_runs.specs.Sweeps.{is_fine};
 ghost use Rattle.wb_states.specs.Ground.{run_of, turns_of, IsTriedSet};
 ghost use Rattle.wb_states.specs.States.{ground_of, GoesOn, HasGrown, IsAboutTo, IsRunUnder, IsSound};
 
@@ -10,8 +11,8 @@ use crate::search::Search;
 use crate::state::{Edge, Shown};
 use crate::turns::go_past_attempt;
 use wb_basics::memory::NoMemory;
-use wb_heap_model::heap::Numbers;
-use wb_machine::{Finished, Machine};
+use wb_heap_model::heap::{Numbers, Rule};
+use wb_machine::Machine;
 use wb_runs::progress::Progress;
 use wb_runs::run_end::is_fine;
 
@@ -29,8 +30,49 @@ impl<'a> Search<'a> {
         self.whole || (self.part.from <= least && least <= self.part.to && least <= self.last)
     }
 
+    /// Puts a tried set whose run is bad or cut into `shown`, unless another set is there. `fork` is this run. It keeps no trace, so the run
+    /// is made again from its first attempt.
+    fn show(&mut self, fork: &Machine, numbers: Numbers) -> Result<(), NoMemory>
+        requires sound { IsSound self.old }
+        requires run { IsRunUnder (ground_of self.old) numbers fork.now }
+        requires tried { IsTriedSet (ground_of self.old) numbers }
+        requires shows { is_fine (run_of (ground_of self.old) numbers) ≡ false }
+        ensures same { self.new ≡ record self.old { shown = self.new.shown } }
+        ensures sound { OnOk result (IsSound self.new) }
+    {
+        if self.shown.is_some() {
+            return Ok(());
+        }
+        let failing = numbers.try_copy()?;
+        let result = fork.run_another(Rule::Set(failing))?;
+        self.shown = Some(Shown { numbers, result });
+        Ok(())
+    }
+
     /// Judges a run that is over. In this run, the attempts of the set `numbers` fail. The first tried set whose run is bad or cut is put
-    /// into `shown`. The run's memory becomes spare.
+    /// into `shown`.
+    fn judge(&mut self, fork: &Machine, numbers: Numbers) -> Result<Edge, NoMemory>
+        requires sound { IsSound self.old }
+        requires run { IsRunUnder (ground_of self.old) numbers fork.now }
+        requires over { fork.now.over ≡ true }
+        requires made { fork.now.attempts ≡ length (run_of (ground_of self.old) numbers).trace }
+        ensures grown { OnOk result (HasGrown self.old self.new) }
+        ensures sound { OnOk result (IsSound self.new) }
+        ensures goes { IfOk result (λ edge. (turns attempts : ℕ) → fork.now.attempts ≤ attempts →
+            GoesOn (ground_of self.new) self.new.states turns numbers attempts edge) }
+    {
+        let ended = fork.ended()?;
+        if is_fine(&ended.outcome) {
+            return Ok(Edge::Ends { steps: ended.steps });
+        }
+        if !self.tries(&numbers) {
+            return Ok(Edge::Untried);
+        }
+        self.show(fork, numbers)?;
+        Ok(Edge::Shows)
+    }
+
+    /// Judges a run that is over, as `judge` does. The run's memory becomes spare.
     fn end(&mut self, fork: Machine<'a>, numbers: Numbers) -> Result<Edge, NoMemory>
         requires sound { IsSound self.old }
         requires run { IsRunUnder (ground_of self.old) numbers fork }
@@ -41,20 +83,9 @@ impl<'a> Search<'a> {
         ensures goes { IfOk result (λ edge. (turns attempts : ℕ) → fork.entry.attempts ≤ attempts →
             GoesOn (ground_of self.new) self.new.states turns numbers attempts edge) }
     {
-        let Finished { result, heap } = fork.finish()?;
-        self.runs.spare = Some(heap);
-        if is_fine(&result.outcome) {
-            return Ok(Edge::Ends {
-                steps: result.steps,
-            });
-        }
-        if !self.tries(&numbers) {
-            return Ok(Edge::Untried);
-        }
-        if self.shown.is_none() {
-            self.shown = Some(Shown { numbers, result });
-        }
-        Ok(Edge::Shows)
+        let edge = self.judge(&fork, numbers)?;
+        self.runs.spare = Some(fork.into_heap());
+        Ok(edge)
     }
 
     /// Lets a run make its next attempt, and returns how the run goes on. The run is at the state with the index `before`.

@@ -40,7 +40,7 @@ pub(crate) struct Plan {
 }
 
 impl<'a> Search<'a> {
-    /// A search before the first attempt of the run without failure.
+    /// A search before the first attempt of the run without failure. The search's runs keep no trace.
     pub fn new(
         alloc: Global,
         script: &'a Script,
@@ -64,8 +64,8 @@ impl<'a> Search<'a> {
         }) }
         ensures shape { result ≡ Err RunFault.BadShape → is_shape shape ≡ false }
     {
-        let rule = Rule::Set(Numbers::new(alloc));
-        let machine = Machine::new(alloc, script, rule, budget, shape)?;
+        let mut machine = Machine::new_rises(alloc, script, budget, shape)?;
+        machine.set_rule(Rule::Set(Numbers::new(alloc)));
         let mut states = Items::new(alloc);
         let mut runs = Runs::new(alloc);
         let first = State {

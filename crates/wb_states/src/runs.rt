@@ -13,11 +13,8 @@ use wb_machine::{Heap, Machine};
 /// About how many bytes the runs of the newest states may take.
 const ROOM: u64 = 4 << 20;
 
-/// About how many bytes a run takes besides its heap and its trace.
+/// About how many bytes a run takes besides its heap. The run keeps no trace.
 const OWN_BYTES: u64 = 8192;
-
-/// About how many bytes an attempt takes in a trace.
-const LINE_BYTES: u64 = 24;
 
 /// One of this many older states keeps its run. The number grows by one for each `BYTES_A_STATE` bytes that a run takes. So the way from
 /// the kept run to any of these states takes no more time than copying a run.
@@ -58,8 +55,7 @@ impl Drop for Runs<'_> {
 
 /// About how many bytes a run takes.
 fn bytes_of(machine: &Machine) -> u64 {
-    let own = OWN_BYTES + u64::from(machine.committed());
-    own + LINE_BYTES * u64::from(machine.attempts())
+    OWN_BYTES + u64::from(machine.committed())
 }
 
 /// Whether the state at the index `at` keeps its run permanently, however many newer states there are. The run takes `bytes` bytes. The

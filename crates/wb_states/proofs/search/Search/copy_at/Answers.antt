@@ -15,11 +15,6 @@ copy_under-requires-clause-attempts c =
     let run = c.requires.sound.runs c.args.at c.in-Some.state.now c.in-Some-get.machine.now (sym c.in-Some.ensures) c.in-Some-get.ensures in
     run.attempts
 
-pub copy_under-requires-clause-lines : goal.copy_under-requires-clause-lines
-copy_under-requires-clause-lines c =
-    let run = c.requires.sound.runs c.args.at c.in-Some.state.now c.in-Some-get.machine.now (sym c.in-Some.ensures) c.in-Some-get.ensures in
-    run.under_way.lines
-
 pub copy_under-requires-clause-going : goal.copy_under-requires-clause-going
 copy_under-requires-clause-going c =
     let run = c.requires.sound.runs c.args.at c.in-Some.state.now c.in-Some-get.machine.now (sym c.in-Some.ensures) c.in-Some-get.ensures in
