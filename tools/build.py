@@ -22,7 +22,7 @@ from threading import Lock
 from typing import IO
 
 from tools.common import PROGRAM, PROGRAM_CRATE, ROOT, parser_of
-from tools.crates import NOT_BUILT, Crates, Step, building, kit, processors, run_steps
+from tools.crates import NOT_BUILT, Crates, Step, alone_with, as_rt_has_them, building, is_library_built, processors, run_steps
 from tools.documents.help_files import BASH, FISH, MAN_PAGE, NAME, ZSH
 
 # the most processes for one crate: further ones would find nothing to do
@@ -55,7 +55,7 @@ class Build:
     def __init__(self, crates: Crates, names: list[str]) -> None:
         self.crates, self.names = crates, names
         self.libraries = list(dict.fromkeys(it for name in names for it in crates.below(name)))
-        self.asked = kit().crates(crates.root, self.libraries)
+        self.asked = as_rt_has_them(crates.root, self.libraries)
         self.count, self.begun, self.done = len(self.libraries) + names.count(PROGRAM_CRATE), time.monotonic(), 0
         self.running: list[str] = []
         self.lock = Lock()
@@ -92,7 +92,7 @@ class Build:
             raise Unproved(f"{crate} is not proved")
 
     def build_library(self, name: str, jobs: int) -> None:
-        self.prove(name, lambda log: kit().build(self.asked[name], jobs, log))
+        self.prove(name, partial(is_library_built, self.asked[name], jobs))
 
     def build_program(self, jobs: int, log: IO[str]) -> bool:
         """Builds the program once its libraries are built. `rt` does so as it runs it: an empty script is refused, so that the
@@ -105,7 +105,7 @@ class Build:
     def run(self, lanes: int) -> None:
         """Builds the libraries while no other `rt` works on them, and then the program if it is wanted; raises `Unproved` where a crate
         isn't proved."""
-        with kit().alone_with(self.asked.values()):
+        with alone_with(self.asked.values()):
             run_steps(self.steps(lanes), lanes)
         if PROGRAM_CRATE in self.names:
             self.prove(PROGRAM_CRATE, partial(self.build_program, lanes))

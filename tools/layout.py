@@ -18,7 +18,7 @@ from collections.abc import Iterator
 from pathlib import Path
 
 from tools.common import ROOT, TOOLS, Tally, parser_of
-from tools.crates import Crates, kit
+from tools.crates import Crates, is_laid_out
 from tools.edits.wrong_body_edits import MUST_FAIL, WRONG_BODIES, functions_in, read_edits
 
 KEPT = TOOLS / "no-memory.txt"
@@ -77,7 +77,7 @@ def look_at_style(words: list[str]) -> int:
 def fault_of(crates: Crates, crate: str) -> str:
     """What the toolchain says of the layout of a crate, if it is another."""
     with tempfile.TemporaryFile("w+", errors="replace") as said:
-        if kit().is_laid_out(crates.folder(crate), said):
+        if is_laid_out(crates.folder(crate), said):
             return ""
         said.seek(0)
         return said.read().strip() or "its files have another layout"

@@ -23,7 +23,7 @@ from threading import Lock
 from typing import IO, NamedTuple
 
 from tools.common import Tally
-from tools.crates import FUNCTION_HEAD, Crates, kit
+from tools.crates import FUNCTION_HEAD, Crates, take_as_built
 from tools.edits.verdicts import Verdicts
 from tools.edits.wrong_body_edits import Edit, WrongBody, edited_files
 
@@ -167,7 +167,7 @@ def make_room(crates: Crates, crate: str, room: Path) -> None:
         crates.copy(name, room / "crates" / name)
     for name in lower:
         shutil.copytree(crates.folder(name) / LIBRARY, room / "crates" / name / LIBRARY, copy_function=link)
-    kit().take_as_built(room, crate)
+    take_as_built(room, crate)
 
 
 def link(source: str, target: str) -> str:

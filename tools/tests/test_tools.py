@@ -1,7 +1,6 @@
-"""The one door to the tools, and what has no tests in a file of its own: runs of programs, the toolchain's module, what is installed,
-bodies that make the error for memory that ran out; and what the tools refuse that try how robust the program
-is: lines of progress, by what a terminal might have shown, and answers where allocations fail, of a program that makes a call once more
-where it found no memory."""
+"""The one door to the tools, and what has no tests in a file of its own: runs of programs, what is installed, bodies that make
+the error for memory that ran out; and what the tools refuse that try how robust the program is: lines of progress, by what a terminal might
+have shown, and answers where allocations fail, of a program that makes a call once more where it found no memory."""
 
 import contextlib
 import io
@@ -13,18 +12,15 @@ import time
 import unittest
 from concurrent.futures import ThreadPoolExecutor
 from pathlib import Path
-from types import ModuleType, SimpleNamespace
-from typing import Any
 from unittest.mock import patch
 
 from tools.build import PLACES, install
 from tools.common import FINE, PROGRAM, ROOT, TOOLS, Answer, NoAnswer, Trials, answer_of
-from tools.crates import CALLS, LOOKED_AT, WRITTEN_FOR, Crates, Kit, changes_in, kit
+from tools.crates import Crates
 from tools.door import COMMANDS, said_by
 from tools.failing_allocations import NO_MEMORY, Trial
 from tools.layout import differences, makers
 from tools.progress import KINDS, Kind, Shown, look_at_lines, screen
-from tools.tests.test_verdicts import files_in
 
 
 def module_of(path: Path) -> str:
@@ -81,31 +77,6 @@ class Programs(unittest.TestCase):
             answer_of(Path("/none"))
         with self.assertRaisesRegex(NoAnswer, "no answer within 0.1 s"):
             self.answer("import time; time.sleep(60)", seconds=0.1)
-
-
-class OfToolchain(unittest.TestCase):
-    def setUp(self) -> None:
-        self.module: Any = ModuleType("rtlib")
-        exec(files_in("small-repository.txt")["kit/rtlib.py"], vars(self.module))
-
-    def test_what_has_changed_is_said_in_one_message(self) -> None:
-        self.assertEqual(list(changes_in(self.module)), [])
-        known, parts = Kit(self.module), vars(self.module.Crate("low", ".", {}))
-        for name in LOOKED_AT:
-            self.module.Crate = lambda *words, name=name: SimpleNamespace(**{key: it for key, it in parts.items() if key != name})
-            with self.assertRaisesRegex(SystemExit, f"a crate has no `{name}`"):
-                known.crates(Path(), ["low"])
-        self.assertEqual(list(changes_in(object())), [f"`{it}` is gone" for it in CALLS])
-        self.setUp()
-        vars(self.module).update(guarded=lambda group: [], lock=None)
-        self.module.Crate.build_rlib = lambda self, words: 0
-        with self.assertRaises(SystemExit) as ended:
-            Kit(self.module)
-        changes = (r"`guarded` takes other words \(.*\)", "`lock` is gone", r"`Crate.build_rlib` takes other words \(.*\)")
-        self.assertRegex(str(ended.exception), f"{'; '.join(changes)}.*tools/crates.py.*{WRITTEN_FOR}.*rt run")
-
-    def test_the_toolchain_here(self) -> None:
-        self.assertEqual(list(changes_in(kit().module)), [])
 
 
 class Installed(unittest.TestCase):

@@ -172,7 +172,7 @@ class WithinATime(SmallRepository):
         with (
             patch("tools.edits.wrong_bodies.ROOT", self.room),
             patch("tools.edits.wrong_bodies.version", return_value=LOGIC),
-            patch("tools.edits.trial.kit"),
+            patch("tools.edits.trial.take_as_built"),
             patch.dict(os.environ, self.environment),
             patch.object(Checks, "are_over", lambda _: bool(self.hung())),
         ):
@@ -223,7 +223,7 @@ class WithinATime(SmallRepository):
                 self.add("crates/low/src/first.rt", change)
                 return Verdict({"low::first::one": Said("disproved")})
 
-            with patch("tools.edits.trial.kit"), patch("tools.edits.trial.check", check):
+            with patch("tools.edits.trial.take_as_built"), patch("tools.edits.trial.check", check):
                 rooms = self.put(f"rooms{len(change)}/none", "").parent
                 trial = Trial(choice.verdicts, rooms, Checks(), choice.sources)
                 with contextlib.redirect_stdout(io.StringIO()):
