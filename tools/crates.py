@@ -2,8 +2,8 @@
 side by side; and what the tools take of the toolchain's own module behind `rt`, step by step. What a tool does with a crate stands in that
 tool.
 
-The parts of that module are private to the toolchain, and all that the tools take of them is here. Where another toolchain lacks one, or has
-it with other words, Python names it, and it is to be mended here; until then `rt run` in crates/wb_main builds the program."""
+The parts of that module are private to the toolchain, and all that the tools take of them is here. Where another toolchain lacks one, or
+has it with other words, Python names it, and it is to be mended here; until then `rt run` in crates/wb_main builds the program."""
 
 import fcntl
 import os

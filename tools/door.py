@@ -1,14 +1,11 @@
 """The one door to the tools: finds the module behind a command, and hands it the further words."""
 
-import ast
 import contextlib
 import io
 import sys
 from importlib import import_module
 from pathlib import Path
 from typing import NamedTuple
-
-from tools.common import TOOLS
 
 # the module of each command, with its function if that isn't `main`, in the order in which they are listed
 COMMANDS = {
@@ -40,9 +37,8 @@ HELP = ("-h", "--help", "help")
 def about(command: str) -> str:
     """What a command does: the first paragraph of what its module or its function says of itself, as one line."""
     module, _, function = COMMANDS[command].partition(":")
-    tree = ast.parse((TOOLS / f"{module.replace('.', '/')}.py").read_text(encoding="utf-8"))
-    found = next((it for it in tree.body if isinstance(it, ast.FunctionDef) and it.name == function), tree)
-    return " ".join((ast.get_docstring(found) or "").partition("\n\n")[0].split())
+    found: object = import_module(f"tools.{module}")
+    return " ".join(((getattr(found, function) if function else found).__doc__ or "").partition("\n\n")[0].split())
 
 
 def listed() -> str:

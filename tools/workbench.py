@@ -22,7 +22,7 @@ from contextlib import contextmanager
 from pathlib import Path
 from typing import NoReturn
 
-from tools.common import PROGRAM, PROGRAM_CRATE, REFUSED, ROOT
+from tools.common import PROGRAM, PROGRAM_CRATE, REFUSED
 from tools.crates import NOT_BUILT, Crates, alone_in, is_being_built
 
 # the name by which the program calls itself
@@ -281,10 +281,7 @@ def why_not_built(crates: Crates) -> str:
     """Why there is no program that answers; nothing if there is one."""
     if is_being_built():
         return "the program is being built by another call"
-    if not PROGRAM.exists():
-        return "not built yet"
-    newer = next(crates.newer_than(PROGRAM.stat().st_mtime), None)
-    return f"the program is older than its sources: {newer.relative_to(ROOT)} is newer" if newer else ""
+    return crates.why_old() if PROGRAM.exists() else "not built yet"
 
 
 def answer_unproved(why: str, crates: Crates, words: list[str]) -> int:

@@ -5,21 +5,17 @@ import io
 import os
 import re
 import sys
-import tempfile
-import unittest
 from argparse import Namespace
-from importlib.machinery import SourceFileLoader
-from importlib.util import module_from_spec, spec_from_loader
-from pathlib import Path
 from types import ModuleType
 from unittest.mock import DEFAULT, patch
 
 from tools import gate as gate_tools
-from tools.common import ROOT, TOOLS, Tally, summed, tally_of
+from tools.common import ROOT, TOOLS, Tally, tally_of
 from tools.comparisons.compare import KINDS
 from tools.crates import Crates
 from tools.door import COMMANDS, said_by
 from tools.gate import Outcome, ProofChain, ToolRun, ToolRuns
+from tools.tests import InRoom
 
 BUSY = "import time\nwhile time.process_time() < 0.3: pass\nprint('1 passed, 0 failed')"
 # says that it runs, and waits for another one that does so: a folder, its own file there, and the other's
@@ -54,27 +50,18 @@ def pass_once(runs: ToolRuns, tool: ToolRun, jobs: int) -> None:
 
 
 def the_gate() -> ModuleType:
-    """The gate's own functions; its file has no ending, so it is loaded by its path."""
-    loader = SourceFileLoader("gate", str(ROOT / "test"))
-    spec = spec_from_loader("gate", loader)
-    assert spec
-    gate = module_from_spec(spec)
-    with patch.object(sys, "dont_write_bytecode", True):
-        loader.exec_module(gate)
+    """The gate's own functions; its file has no ending, so it is read by its path."""
+    gate = ModuleType("gate")
+    vars(gate)["__file__"] = str(ROOT / "test")
+    exec((ROOT / "test").read_text(encoding="utf-8"), vars(gate))
     return gate
 
 
-class OfTheGate(unittest.TestCase):
+class OfTheGate(InRoom):
     def setUp(self) -> None:
+        super().setUp()
         self.gate = the_gate()
         self.said = self.enterContext(contextlib.redirect_stdout(io.StringIO()))
-
-    def test_checks(self) -> None:
-        tally = Tally()
-        for holds in (True, False, True):
-            tally.check(holds, "two isn't three")
-        self.assertEqual((tally, self.said.getvalue()), (Tally(2, 1), "two isn't three\n"))
-        self.assertEqual(summed([tally, Tally(1, 4)]), Tally(3, 5))
 
     def test_what_a_command_says(self) -> None:
         for said, status, may_be_none, counts in (
@@ -128,11 +115,10 @@ class OfTheGate(unittest.TestCase):
             self.assertEqual(tally.call_args.kwargs["may_be_none"], not is_all)
 
     def test_the_chain_of_proofs(self) -> None:
-        with tempfile.TemporaryDirectory() as folder, patch.dict(os.environ, PATH=f"{folder}{os.pathsep}{os.environ['PATH']}"):
-            Path(folder, "rt").write_text("#!/bin/sh\necho 'rt: wb_basics proved'\necho '3 passed, 0 failed'\n", encoding="utf-8")
-            Path(folder, "rt").chmod(0o755)
-            with patch.object(self.gate, "building", contextlib.nullcontext):
-                self.assertEqual(self.gate.gate(), Tally(3, 0))
+        self.put("rt", "#!/bin/sh\necho 'rt: wb_basics proved'\necho '3 passed, 0 failed'\n")
+        path = f"{self.room}{os.pathsep}{os.environ['PATH']}"
+        with patch.dict(os.environ, PATH=path), patch.object(self.gate, "building", contextlib.nullcontext):
+            self.assertEqual(self.gate.gate(), Tally(3, 0))
         said = "(?s)rt: wb_basics proved\n3 passed, 0 failed\n.*\n    wb_basics +0.0 +0.0  waited for no crate\n"
         self.assertRegex(self.said.getvalue(), said)
 
@@ -149,7 +135,7 @@ class OfTheGate(unittest.TestCase):
 
     def test_no_compiler(self) -> None:
         runs, tools = ToolRuns(), [it for it in self.gate.RUNS if it.words[0] == "failing-allocations"]
-        with tempfile.TemporaryDirectory() as empty, patch.dict(os.environ, PATH=empty):
+        with patch.dict(os.environ, PATH=str(self.room)):
             runs.run_all(tools, 1)
             said = said_by("failing-allocations", "--same", "--program", "no-program")
         # of the program on scripts, and of the one that makes calls once more
@@ -172,8 +158,7 @@ class OfTheGate(unittest.TestCase):
         self.assertEqual(tallies, {"right": Tally(2, 0), "wrong": Tally(4, 3), "silent": Tally(0, 1), "late": Tally(2, 1)})
 
     def test_they_run_side_by_side(self) -> None:
-        with tempfile.TemporaryDirectory() as room:
-            _, tallies = self.run_all(ToolRun(("meeting", room, "one", "two")), ToolRun(("meeting", room, "two", "one")))
+        _, tallies = self.run_all(*(ToolRun(("meeting", str(self.room), *it)) for it in (("one", "two"), ("two", "one"))))
         self.assertEqual(list(tallies.values()), [Tally(1, 0), Tally(1, 0)])
 
     def test_their_order_on_one_processor(self) -> None:
@@ -228,12 +213,11 @@ CHAINS: list[tuple[int, list[tuple[int, str]], list[str]]] = [
 ]
 
 
-class ChainOfRun(unittest.TestCase):
+class ChainOfRun(InRoom):
     def test_chains(self) -> None:
+        self.put("crates.txt", CRATES)
         for minutes, heard, wanted in CHAINS:
-            with tempfile.TemporaryDirectory() as folder:
-                Path(folder, "crates.txt").write_text(CRATES, encoding="utf-8")
-                chain = ProofChain(Crates(Path(folder)))
+            chain = ProofChain(Crates(self.room))
             for minute, line in heard:
                 chain.hear(f"rt: {line}\n", 60.0 * minute)
             lines = list(chain.lines(60.0 * minutes))

@@ -5,9 +5,7 @@ have shown, and answers where allocations fail, of a program that makes a call o
 import contextlib
 import io
 import re
-import subprocess
 import sys
-import tempfile
 import time
 import unittest
 from concurrent.futures import ThreadPoolExecutor
@@ -15,12 +13,13 @@ from pathlib import Path
 from unittest.mock import patch
 
 from tools.build import PLACES, install
-from tools.common import FINE, PROGRAM, ROOT, TOOLS, Answer, NoAnswer, Trials, answer_of
+from tools.common import PROGRAM, ROOT, TOOLS, Answer, NoAnswer, Trials, answer_of
 from tools.crates import Crates
 from tools.door import COMMANDS, said_by
 from tools.failing_allocations import NO_MEMORY, Trial
 from tools.layout import differences, makers
 from tools.progress import KINDS, Kind, Shown, look_at_lines, screen
+from tools.tests import InRoom
 
 
 def module_of(path: Path) -> str:
@@ -54,39 +53,21 @@ class Door(unittest.TestCase):
         self.assertEqual((status, said), (2, ""))
         self.assertIn("there is no command walk", messages)
 
-    def test_from_any_folder(self) -> None:
-        with tempfile.TemporaryDirectory() as folder:
-            ran = subprocess.run([sys.executable, "-I", TOOLS / "dev"], cwd=folder, capture_output=True, text=True)
-        self.assertEqual((ran.returncode, ran.stderr), (0, ""))
-        self.assertIn("\n  compare ", ran.stdout)
-
 
 class Programs(unittest.TestCase):
-    def answer(self, code: str, script: bytes = b"", seconds: float = 20, **streams: object) -> Answer:
-        return answer_of(Path(sys.executable), "-c", code, script=script, seconds=seconds, **streams)
-
-    def test_an_answer(self) -> None:
-        code = "import sys; sys.stdout.write(sys.stdin.read() + '!'); sys.stderr.write('?'); sys.exit(5)"
-        self.assertEqual(self.answer(code, b"one"), Answer(b"one!", b"?", 5))
-        with open("/dev/null", "r+b") as nothing:
-            self.assertEqual(self.answer("print(input())", b"one\n", stdout=nothing), Answer(b"", b"", FINE))
-            self.assertEqual(self.answer("import sys; print(len(sys.stdin.read()))", b"one", stdin=nothing).output, b"0\n")
-
-    def test_none(self) -> None:
+    def test_no_program_and_no_answer(self) -> None:
         with self.assertRaisesRegex(SystemExit, "there is no program /none"):
             answer_of(Path("/none"))
         with self.assertRaisesRegex(NoAnswer, "no answer within 0.1 s"):
-            self.answer("import time; time.sleep(60)", seconds=0.1)
+            answer_of(Path(sys.executable), "-c", "import time; time.sleep(60)", seconds=0.1)
 
 
-class Installed(unittest.TestCase):
+class Installed(InRoom):
     def test_what_is_installed(self) -> None:
         # this stands in for the program, which may not be built
-        room = Path(self.enterContext(tempfile.TemporaryDirectory()))
-        program, prefix = room / "program", room / "a prefix"
+        program, prefix = self.put("program", "first"), self.room / "a prefix"
         self.enterContext(contextlib.redirect_stdout(io.StringIO()))
         places = {program if source == PROGRAM else source: place for source, place in PLACES.items()}
-        program.write_text("first", encoding="ascii")
         program.chmod(0o700)
         install(prefix, places)
         with (prefix / PLACES[PROGRAM]).open(encoding="ascii") as running:
@@ -120,7 +101,7 @@ def source(body: str) -> str:
     return f"fn made(cell: Cell) -> Result<u8, NoMemory>\n    ensures {{ OnErr result (fault ≡ Fault.NoMemory) }}\n{{\n    {body}\n}}\n"
 
 
-class NoMemory(unittest.TestCase):
+class NoMemory(InRoom):
     def test_a_body_makes_one_or_hands_one_on(self) -> None:
         for body in (*MADE, *HANDED_ON):
             self.assertEqual(makers(source(body)), ["made"] if body in MADE else [], body)
@@ -129,14 +110,10 @@ class NoMemory(unittest.TestCase):
         self.assertEqual(makers(source(MADE[0]) + source(HANDED_ON[0]) + source(MADE[2])), ["made 2"])
 
     def test_a_body_that_is_new_or_gone_is_named(self) -> None:
-        with tempfile.TemporaryDirectory() as folder:
-            file, kept = Path(folder, "crates/low/src/lib.rt"), Path(folder, "kept.txt")
-            file.parent.mkdir(parents=True)
-            Path(folder, "crates.txt").write_text("low:\n", encoding="utf-8")
-            file.write_text(source(MADE[0]), encoding="utf-8")
-            for listed, count in {"low/src/lib.rt made: why": 0, "low/src/lib.rt made": 1, "low/src/lib.rt other: why": 2}.items():
-                kept.write_text(listed, encoding="utf-8")
-                self.assertEqual(len(differences(Crates(Path(folder)), kept)), count, listed)
+        self.put("crates.txt", "low:\n")
+        self.put("crates/low/src/lib.rt", source(MADE[0]))
+        for listed, count in {"low/src/lib.rt made: why": 0, "low/src/lib.rt made": 1, "low/src/lib.rt other: why": 2}.items():
+            self.assertEqual(len(differences(Crates(self.room), self.put("kept.txt", listed))), count, listed)
 
 
 SINGLE, RATES, PAIRS, LENGTHS, SETS, RUN, _ = KINDS
@@ -219,7 +196,7 @@ class Lines(unittest.TestCase):
         self.assertEqual(screen(b"\rtrying 10 of 40\rleaks 0\r\n"), ["leaks 010 of 40", ""])
 
 
-class RunsSideBySide(unittest.TestCase):
+class RunsSideBySide(InRoom):
     """A program of six allocations, with given answers by how they fail and by number."""
 
     def fault(self, answers: dict[tuple[str, int], Answer]) -> tuple[str | None, int, int]:
@@ -229,11 +206,9 @@ class RunsSideBySide(unittest.TestCase):
             time.sleep(0.01 * (LAST - number) if number else 0)
             return answers.get((how, number), PLAIN)
 
-        with tempfile.TemporaryDirectory() as folder, ThreadPoolExecutor(4) as pool:
-            trial = Trial(Path(folder, "program"), None, Path(folder), pool.map)
-            trial.count.write_text(f"8 1\n{LAST}\n", encoding="ascii")
-            with patch.object(Trial, "run", run), patch.object(Trial, "asked_needlessly", return_value=None):
-                return trial.fault()
+        self.put("program.count", f"8 1\n{LAST}\n")
+        with ThreadPoolExecutor(4) as pool, patch.object(Trial, "run", run), patch.object(Trial, "asked_needlessly", return_value=None):
+            return Trial(self.room / "program", None, self.room, pool.map).fault()
 
     def test_answers(self) -> None:
         self.assertEqual(self.fault({}), (None, LAST, 0))
