@@ -8,7 +8,6 @@ hold from the comparison: whether that is so, the workbench itself shows."""
 import json
 import random
 import re
-import tempfile
 import textwrap
 import unittest
 from collections import Counter
@@ -27,6 +26,7 @@ from tools.comparisons.single_runs import joined
 from tools.comparisons.sweeps import BY_NUMBER, FAILURES, LISTINGS, PAIRS, SETS, SINGLE, Swept, failures, parts_of, spread
 from tools.door import said_by
 from tools.terms import Reader
+from tools.tests import InRoom
 
 ATTEMPTS, GREATEST = 3, 7
 # how many steps each run takes: each attempt but the first is made in one, and cells are freed after these
@@ -281,7 +281,7 @@ class WhatIsSeen(unittest.TestCase):
             self.assertIn("one: ", compared(kind, Path("/bin/false"), "one", b"")[2])
 
 
-class WhatIsTried(unittest.TestCase):
+class WhatIsTried(InRoom):
     def test_sets_in_their_order(self) -> None:
         swept = Swept(FAILURES, ModelScript(NONE))
         tried = list(swept.to_try((2, 4, 5)))
@@ -314,11 +314,10 @@ class WhatIsTried(unittest.TestCase):
             self.assertEqual(len(too_few(wanted, Counter(outcomes | {it: outcomes[it] - 1}), 100)), 1)
 
     def test_what_is_printed_and_kept(self) -> None:
-        with tempfile.TemporaryDirectory() as folder:
-            words = ("--program", "/bin/true", "--scripts", "5", "--keep", folder)
-            self.assertEqual((said_by("compare", "forks", *words).status, list(Path(folder).iterdir())), (0, []))
-            status, said, _ = said_by("compare", "every", *words)
-            self.assertEqual((status, Path(folder, "every-made-4.oom").exists()), (1, True))
+        words = ("--program", "/bin/true", "--scripts", "5", "--keep", self.room)
+        self.assertEqual((said_by("compare", "forks", *words).status, list(self.room.iterdir())), (0, []))
+        status, said, _ = said_by("compare", "every", *words)
+        self.assertEqual((status, (self.room / "every-made-4.oom").exists()), (1, True))
         self.assertIn("every: made 4: ", said)
         self.assertIn("every: too few scripts with none: 0 of 5, and 1 are wanted", said)
         self.assertEqual(said_by("compare", "walk").status, 2)

@@ -203,6 +203,9 @@ class OfCases(InRoom):
         group = self.reads(GROUP)
         self.assertEqual((group.head, group.cases(), group.text()), (["# Some cases."], [READ], GROUP))
         self.assertEqual((group.blocks[1].name, group.blocks[1].table), ("rows", ["answer: 0 a", "    b"]))
+        group = self.reads(GROUP.replace("\n\n=== rows", "\n$ run  # two.run\n--- status 1\n$ sweep\n--- status 2\n\n=== rows"))
+        found = [(it.name, it.status, it.script) for it in group.cases()]
+        self.assertEqual(found, [(name, at, READ.script) for at, name in enumerate(("one.run", "two.run", "one.sweep"))])
 
     def test_cases_of_all_sorts(self) -> None:
         cases = [
@@ -214,11 +217,6 @@ class OfCases(InRoom):
         self.put_cases(*cases)
         self.assertEqual(self.held(), cases)
 
-    def test_a_script_with_several_commands(self) -> None:
-        group = self.reads(GROUP.replace("\n\n=== rows", "\n$ run  # two.run\n--- status 1\n$ sweep\n--- status 2\n\n=== rows"))
-        self.assertEqual([(it.name, it.status) for it in group.cases()], [("one.run", 0), ("two.run", 1), ("one.sweep", 2)])
-        self.assertEqual({it.script for it in group.cases()}, {READ.script})
-
     def test_what_is_no_group(self) -> None:
         for old, new, why in NO_GROUPS:
             with self.subTest((old, new)), self.assertRaisesRegex(CaseError, rf"\A{self.file}:.*({why})"):
@@ -226,14 +224,6 @@ class OfCases(InRoom):
                 self.reads(GROUP.replace(old, new, 1))
         with self.assertRaisesRegex(CaseError, "the last line has no line feed"):
             self.reads(GROUP.removesuffix("\n"))
-
-    def test_right_answers(self) -> None:
-        contains = ["first: ended", "line: leaks 1", "last: steps 4"]
-        others = [replace(RIGHT, stderr=None, args=[]), Case("", "", b"", [], b"", None, 6, None)]
-        others += [replace(RIGHT, script=b"1\xff\r", stdout=b"\xff\r"), replace(RIGHT, stdout=None, contains=contains)]
-        named = (replace(it, name=f"other-{at}") for at, it in enumerate(others))
-        self.put_cases(RIGHT, *named, table="answer: 0 a\n    0a\\n\n    0a\\n\n")
-        self.assertEqual(self.said(), (0, "7 passed, 0 failed\n"))
 
     def test_differences(self) -> None:
         self.put_cases(WRONG)
@@ -308,12 +298,6 @@ class OfCases(InRoom):
         self.assertEqual(self.said("--write"), (0, f"some/one.run: written: another answer:{DIFFERENCE}2 passed, 0 failed\n"))
         self.assertEqual(self.held(), [RIGHT, other])
         self.assertEqual(self.said(), (0, "2 passed, 0 failed\n"))
-
-    def test_answers_of_all_bytes(self) -> None:
-        script = b"1" + bytes(range(256)) * 2
-        self.put_cases(replace(RIGHT, script=script))
-        self.assertEqual(self.said("--write", "one.run")[0], 0)
-        self.assertEqual(self.held(), [replace(RIGHT, script=script, stdout=script[1:])])
 
     def test_a_program_that_is_older_than_its_sources(self) -> None:
         self.put_cases(WRONG)
