@@ -3,9 +3,8 @@
 A NAME is that of a group or of a folder of groups, of a script or a table in one (`guide/two-cells`), or of a case
 (`guide/two-cells.run`); without one all cases are run. Of each failing case the difference is shown, from the case as it is to the one
 that the program's answer would make. With --write that is put into the group's file: look at each difference then, since a case's answer
-must come from the rules and not from the program. Tables, and what very long outputs must contain, are never written. A case that is
-written has passed. Nothing is written by a program of ./build that is older than its sources. With --show cases are shown as they would
-be typed in a shell.
+must come from the rules and not from the program. Tables are never written. A case that is written has passed. Nothing is written by a
+program of ./build that is older than its sources. With --show cases are shown as they would be typed in a shell.
 """
 
 import os
@@ -110,7 +109,6 @@ def wanted_of(answer: str) -> tuple[tuple[int, ...], re.Pattern[bytes]]:
 
 def shown(case: Case) -> str:
     lines = [f"# {case.place}: status {case.status}", typed(case.script, shlex.join(["./workbench", *case.args]))]
-    lines += [f"# {it}" for it in case.contains or []]
     for name, text in (("standard output", case.stdout), ("standard error", case.stderr)):
         lines += [] if text is None else [f"# {name}:", *(f"#     {it}".rstrip() for it in spelled(text))]
     return "\n".join([*lines, ""])
@@ -139,29 +137,13 @@ def tried(
 
 
 def with_answer(case: Case, answer: Answer) -> Case:
-    """The case that an answer makes of another: with its status, and its output and its messages where these are compared."""
-    output, messages = (None if it is None else new for it, new in ((case.stdout, answer.output), (case.stderr, answer.messages)))
-    return replace(case, stdout=output, status=answer.status, stderr=messages)
-
-
-def first_missing(wanted: list[str], given: bytes) -> str | None:
-    """The first line that an output must contain and lacks, or None."""
-    lines, at = given.decode("ascii", "backslashreplace").splitlines(), 0
-    for kind, text in (entry.split(": ", 1) for entry in wanted):
-        if kind == "line":
-            if text not in lines[at:]:
-                return f"no line {text!r} after line {at}"
-            at = lines.index(text, at) + 1
-        elif lines[0 if kind == "first" else -1 :][:1] != [text]:
-            return f"the {kind} line isn't {text!r}"
-    return None
+    """The case that an answer makes of another: with its output, its status, and its messages where these are compared."""
+    return replace(case, stdout=answer.output, status=answer.status, stderr=None if case.stderr is None else answer.messages)
 
 
 def fault_of(case: Case, answer: Answer) -> str | None:
-    answered, missing = with_answer(case, answer), first_missing(case.contains or [], answer.output)
-    if answered == case:
-        return missing
-    return "\n".join([*([missing] if missing else []), "another answer:", *difference(case, answered)])
+    answered = with_answer(case, answer)
+    return None if answered == case else "\n".join(["another answer:", *difference(case, answered)])
 
 
 def difference(case: Case, other: Case) -> Iterator[str]:
@@ -202,7 +184,7 @@ class Chosen(NamedTuple):
         if answer and fault and is_writing:
             self.block.cases[self.block.cases.index(case)] = with_answer(case, answer)
             self.group.write()
-            yield not first_missing(case.contains or [], answer.output), f"{case.place}: written: {fault}"
+            yield True, f"{case.place}: written: {fault}"
         else:
             yield not fault, f"{case.place}: {fault}" if fault else ""
 

@@ -20,7 +20,6 @@ MARKER = re.compile(r"(?:===|---|\$) |\$$")
 PLAIN = re.compile(rb"([\x20-\x7e]*\n)*")
 NAMED = re.compile(r"(?:^| ) # (\S+)$")
 STATUS = re.compile("status (0|[1-9][0-9]*)")
-CONTAINED = re.compile(r"((first|line|last): .*\n)+")
 
 ESCAPES = {"n": "\n", "t": "\t", "r": "\r", "\\": "\\", "e": "", "\n": ""}
 SPELLED = {"\\": "\\\\", "\t": "\\t", "\r": "\\r"}
@@ -97,9 +96,7 @@ class Case:
     script: bytes
     # arguments that name files do so from the top of the repository
     args: list[str]
-    # either the whole standard output or the lines that say what it contains
-    stdout: bytes | None
-    contains: list[str] | None
+    stdout: bytes
     status: int
     # None where standard error isn't compared
     stderr: bytes | None
@@ -148,10 +145,8 @@ class Group:
         lines = ["$ " + shlex.join(case.args) if case.args else "$"]
         if case.name != default_name(script_name, case.args):
             lines[0] += f"  # {case.name}"
-        contains = None if case.contains is None else "".join(f"{it}\n" for it in case.contains).encode("latin-1")
-        for name, text in (("", case.stdout), ("contains", contains), ("stderr", case.stderr)):
-            lines += [] if text is None else [*([f"--- {name}"] if name else []), *self.lines_of_text(text)]
-        return [*lines, f"--- status {case.status}"]
+        messages = [] if case.stderr is None else ["--- stderr", *self.lines_of_text(case.stderr)]
+        return [*lines, *self.lines_of_text(case.stdout), *messages, f"--- status {case.status}"]
 
     def lines_of_text(self, text: bytes) -> list[str]:
         return self.spelling.get(text) or spelled(text)
@@ -216,12 +211,9 @@ def case_of(group: Group, block: Block, sections: dict[str, list[str]], status: 
     """The case below a script that has these sections and this status."""
     command = sections["$"][0]
     words, named = shlex.split(NAMED.sub("", command)), NAMED.search(command)
-    stdout, contains, stderr = (group.text_of(sections[it]) if it in sections else None for it in ("", "contains", "stderr"))
-    if contains is not None and (stdout or not CONTAINED.fullmatch(contains.decode("latin-1"))):
-        raise CaseError("what is contained are lines with `first: `, `line: ` or `last: `, and nothing stands above them")
-    wanted = None if contains is None else contains.decode("latin-1").split("\n")[:-1]
+    stderr = group.text_of(sections["stderr"]) if "stderr" in sections else None
     name = named[1] if named else default_name(block.name, words)
-    return Case(name, group.name, block.script, words, stdout if wanted is None else None, wanted, status, stderr)
+    return Case(name, group.name, block.script, words, group.text_of(sections[""]), status, stderr)
 
 
 def without_blanks(lines: list[str]) -> list[str]:

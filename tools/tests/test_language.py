@@ -227,7 +227,7 @@ CASES = [
 
 class OfTheorems(InRoom):
     def said(self, script: str, report: str, words: str, *more: str) -> tuple[int, str]:
-        case = Case("plain.run", "some/part", script.encode(), words.split(), report.encode(), None, 0, None)
+        case = Case("plain.run", "some/part", script.encode(), words.split(), report.encode(), 0, None)
         Group(case.group, self.put("some/part.cases", ""), [], [Block(0, "plain", case.script, [case])]).write()
         status, said, messages = said_by("theorems", "--in", self.room, "--out", self.room, *more)
         return status, said + messages

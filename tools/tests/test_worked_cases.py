@@ -29,7 +29,7 @@ note: nothing leaks
 answer: 0 a
     b
 """
-READ = Case("one.run", "some", b"proc main\nend\n", ["run", "--limit", "160"], b"ended\nleaks 0\n", None, 0, b"note: nothing leaks\n")
+READ = Case("one.run", "some", b"proc main\nend\n", ["run", "--limit", "160"], b"ended\nleaks 0\n", 0, b"note: nothing leaks\n")
 
 # what is no group: a change of the one above, and a part of what is said of it
 NO_GROUPS = (
@@ -41,10 +41,6 @@ NO_GROUPS = (
     ("160\n", "160  # one.run\n", "there must be"),
     ("--- stderr", "--- oom", "there must be `--- status 0`"),
     ("--- stderr\n", "--- stderr\n--- stderr\n", "there must be"),
-    ("leaks 0\n", "--- contains\nleaks 0\n", "what is contained"),
-    ("ended\nleaks 0\n", "--- contains\nleaks 0\n", "what is contained"),
-    ("ended\nleaks 0\n", "--- contains\n", "what is contained"),
-    ("ended\nleaks 0\n", "ended\n--- contains\nline: leaks 0\n", "what is contained"),
     ("--- status 0\n", "", "the case above it has no status"),
     ("--- status 0\n", "--- status 0\n--- stderr\n", "no case stands above it"),
     ("    b\n", "    b\n\n=== two\n$ run\n", "the last case has no status"),
@@ -70,7 +66,7 @@ printf %s "$*" >&2
 exit ${status:-6}
 """
 OUTPUT = b"ended\nleaks 1\nsteps 4\n"
-RIGHT = Case("one.run", "some", b"1" + OUTPUT, ["run", "--limit", "9"], OUTPUT, None, 1, b"run --limit 9")
+RIGHT = Case("one.run", "some", b"1" + OUTPUT, ["run", "--limit", "9"], OUTPUT, 1, b"run --limit 9")
 WRONG = replace(RIGHT, stdout=b"ended\nleaks 2\nsteps 4", status=0)
 DIFFERENCE = """
 --- as the case says
@@ -95,10 +91,6 @@ WRONG_PARTS = (
     (replace(RIGHT, stdout=b"ended\nleaks 1\nsteps 4\n\xff"), "-\\xff\\"),
     (replace(RIGHT, status=3), "+--- status 1"),
     (replace(RIGHT, stderr=b""), "+run --limit 9\\"),
-    (replace(RIGHT, stdout=None, contains=["first: leaks 1"]), "the first line isn't 'leaks 1'"),
-    (replace(RIGHT, stdout=None, contains=["line: leaks 1", "line: ended"]), "no line 'ended' after line 2"),
-    (replace(RIGHT, stdout=None, contains=["last: ended"]), "the last line isn't 'ended'"),
-    (replace(RIGHT, stdout=None, contains=["last: steps 4"], status=3), "---- status 3"),
 )
 # tables, which begin in the second line of their file, and a part of what is said of each
 TABLES = {
@@ -211,7 +203,6 @@ class OfCases(InRoom):
         cases = [
             replace(READ, name="two.run", args=["run", "", "a b", "'", "#", "  # c", "caf\\"], stderr=None),
             replace(READ, name="help", args=[], script=b"", stdout=b"", status=255, stderr=b""),
-            replace(READ, name="long.run", stdout=None, contains=["first: print 1", "line: --- a", "last: \xe9 "]),
             replace(READ, name="bytes.run", script=b"\n--- stderr\n$ a\n\xff\r", stdout=b"ended", stderr=b"\n"),
         ]
         self.put_cases(*cases)
@@ -311,11 +302,12 @@ class OfCases(InRoom):
         self.assertIn(": ./build comes before --write\n", messages)
 
     def test_what_is_never_written(self) -> None:
-        self.put_cases(replace(RIGHT, stdout=None, contains=["last: ended"]), table="answer: 0 a\n    1a\\n\n")
+        self.put_cases(RIGHT, table="answer: 0 a\n    1a\\n\n")
         kept = self.file.read_bytes()
-        self.assertEqual(self.said("--write")[1].splitlines()[-1], "0 passed, 2 failed")
+        self.assertEqual(self.said("--write")[1].splitlines()[-1], "1 passed, 1 failed")
         self.assertEqual(self.file.read_bytes(), kept)
         repeated = kept.replace(b"1ended\n", b"1ended\n\\{2:leak\\}\n").replace(b"1ended", b"0ended")
         self.file.write_bytes(repeated)
         self.said("--write")
-        self.assertEqual(self.file.read_bytes(), repeated.replace(b"status 1", b"status 0"))
+        written = repeated.replace(b"status 1", b"status 0").replace(b"\nended\n", b"\nended\nleak\nleak\n")
+        self.assertEqual(self.file.read_bytes(), written)
