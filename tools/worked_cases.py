@@ -9,17 +9,20 @@ import re
 import shlex
 from collections.abc import Iterator
 from dataclasses import dataclass, field
-from itertools import pairwise, product, zip_longest
+from itertools import product, zip_longest
 from pathlib import Path
 from string import ascii_lowercase
 
 from tools.common import CASES
 
 SUFFIX, TABLE = ".cases", " (table)"
-MARKER = re.compile(r"(?:===|---|\$) |\$$")
+MARKER = re.compile(r"(?:===|---|\$) |\$$", re.MULTILINE)
+# lines of a text; a script or a table with what is below it; and a case, with the texts of its answer
+TEXT = rf"(?:(?!{MARKER.pattern}).*\n)*"
+BLOCK = re.compile(rf"^=== (.*)\n({TEXT})((?:(?!=== ).*\n)*)", re.MULTILINE)
+CASE = re.compile(rf"^\$( .*)?\n({TEXT})(?:--- stderr\n({TEXT}))?--- status (0|[1-9][0-9]*)\n", re.MULTILINE)
 PLAIN = re.compile(rb"([\x20-\x7e]*\n)*")
 NAMED = re.compile(r"(?:^| ) # (\S+)$")
-STATUS = re.compile("status (0|[1-9][0-9]*)")
 
 ESCAPES = {"n": "\n", "t": "\t", "r": "\r", "\\": "\\", "e": "", "\n": ""}
 SPELLED = {"\\": "\\\\", "\t": "\\t", "\r": "\\r"}
@@ -151,19 +154,28 @@ class Group:
     def lines_of_text(self, text: bytes) -> list[str]:
         return self.spelling.get(text) or spelled(text)
 
-    def text_of(self, lines: list[str]) -> bytes:
-        """The text that lines are. Repetitions are kept for when they are written."""
-        whole = "".join(f"{it}\n" for it in lines)
+    def text_of(self, whole: str) -> bytes:
+        """What the lines of a text mean. Repetitions are kept for when they are written."""
         # most texts have nothing that means anything else
         text = meaning(whole) if "\\" in whole else whole.encode("ascii")
         if "\\{" in whole and text:
-            self.spelling[text] = lines
+            self.spelling[text] = whole.splitlines()
         return text
 
-    def add(self, line: int, title: str, lines: list[str]) -> None:
-        """Adds a script or a table that begins in a line of the file."""
-        table = without_blanks(lines) if title.endswith(TABLE) else None
-        self.blocks.append(Block(line, title.removesuffix(TABLE), self.text_of(lines) if table is None else b"", table=table))
+    def add(self, line: int, title: str, own: str, below: str) -> None:
+        """Adds a script with the cases below it, or a table, that begins in a line of the file."""
+        is_table, block = title.endswith(TABLE), Block(line, title.removesuffix(TABLE))
+        if other := (below if is_table else CASE.sub("", below)).strip("\n"):
+            raise CaseError(f"it can't stand here: {other.splitlines()[0]}")
+        self.blocks.append(block)
+        if is_table:
+            block.table = own.rstrip("\n").splitlines()
+            return
+        block.script = self.text_of(own)
+        for given, stdout, stderr, status in (it.groups() for it in CASE.finditer(below)):
+            named, words = NAMED.search(given or ""), shlex.split(NAMED.sub("", given or ""))
+            name, messages = named[1] if named else default_name(title, words), None if stderr is None else self.text_of(stderr)
+            block.cases.append(Case(name, self.name, block.script, words, self.text_of(stdout), int(status), messages))
 
     def write(self) -> None:
         self.file.write_text(self.text(), encoding="ascii")
@@ -178,46 +190,16 @@ def read(file: Path, name: str) -> Group:
     held = file.read_bytes()
     if not PLAIN.fullmatch(held):
         raise CaseError(f"{file}: there are bytes other than printable ASCII, or the last line has no line feed")
-    lines = held.decode("ascii").split("\n")[:-1]
-    starts = [*(at for at, line in enumerate(lines) if MARKER.match(line)), len(lines)]
-    group = Group(name, file, without_blanks(lines[: starts[0]]))
-    # those of a case that hasn't ended
-    sections: dict[str, list[str]] = {}
-    for start, end in pairwise(starts):
-        (mark, _, text), rest = lines[start].partition(" "), lines[start + 1 : end]
+    text = held.decode("ascii")
+    group = Group(name, file, re.split("^=== ", text, maxsplit=1, flags=re.MULTILINE)[0].rstrip("\n").splitlines())
+    for it in BLOCK.finditer(text):
+        line = text.count("\n", 0, it.start()) + 1
         try:
-            if (mark == "---") != bool(sections):
-                raise CaseError("the case above it has no status" if sections else "no case stands above it")
-            if mark == "===":
-                group.add(start + 1, text, rest)
-            elif not group.blocks or group.blocks[-1].table is not None:
-                raise CaseError("no script stands above it")
-            elif mark == "$":
-                sections = {"$": [text], "": rest}
-            elif status := STATUS.fullmatch(text):
-                group.blocks[-1].cases.append(case_of(group, group.blocks[-1], sections, int(status[1])))
-                sections = {}
-            else:
-                sections[text] = rest
+            group.add(line, *it.groups())
         except (CaseError, ValueError) as error:
-            raise CaseError(f"{file}:{start + 1}: `{lines[start]}` can't stand here: {error}") from None
-    if sections:
-        raise CaseError(f"{file}: the last case has no status")
-    look_at(group, lines)
+            raise CaseError(f"{file}:{line}: `{it[1]}`: {error}") from None
+    look_at(group, text.splitlines())
     return group
-
-
-def case_of(group: Group, block: Block, sections: dict[str, list[str]], status: int) -> Case:
-    """The case below a script that has these sections and this status."""
-    command = sections["$"][0]
-    words, named = shlex.split(NAMED.sub("", command)), NAMED.search(command)
-    stderr = group.text_of(sections["stderr"]) if "stderr" in sections else None
-    name = named[1] if named else default_name(block.name, words)
-    return Case(name, group.name, block.script, words, group.text_of(sections[""]), status, stderr)
-
-
-def without_blanks(lines: list[str]) -> list[str]:
-    return "\n".join(lines).rstrip("\n").split("\n") if any(lines) else []
 
 
 def look_at(group: Group, lines: list[str]) -> None:
