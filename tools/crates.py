@@ -11,6 +11,7 @@ import re
 import shutil
 import subprocess
 import sys
+import tempfile
 import time
 from collections.abc import Callable, Iterable, Iterator
 from concurrent.futures import FIRST_COMPLETED, Future, ThreadPoolExecutor, wait
@@ -214,9 +215,13 @@ def alone_with(crates: Iterable[Any]) -> Iterator[None]:
             os.close(it)
 
 
-def is_laid_out(crate: Path, said: IO[str]) -> bool:
-    """Whether the files of the crate in that folder are laid out as `rt fmt` does it; what is said of others goes into the file."""
-    return bool(rtlib().fmt(str(crate), "--check", said) == 0)
+def fault_of_layout(crate: Path) -> str:
+    """What the toolchain says of the files of the crate in that folder, if `rt fmt` lays them out otherwise."""
+    with tempfile.TemporaryFile("w+", errors="replace") as said:
+        if rtlib().fmt(str(crate), "--check", said) == 0:
+            return ""
+        said.seek(0)
+        return said.read().strip() or "its files have another layout"
 
 
 def take_as_built(root: Path, crate: str) -> None:

@@ -12,13 +12,12 @@ proof."""
 import re
 import shutil
 import subprocess
-import tempfile
 from collections import Counter
 from collections.abc import Iterator
 from pathlib import Path
 
 from tools.common import ROOT, TOOLS, Tally, parser_of
-from tools.crates import Crates, is_laid_out
+from tools.crates import Crates, fault_of_layout
 from tools.edits.wrong_body_edits import MUST_FAIL, WRONG_BODIES, functions_in, read_edits
 
 KEPT = TOOLS / "no-memory.txt"
@@ -74,20 +73,11 @@ def look_at_style(words: list[str]) -> int:
     return tally.end(may_be_none=True)
 
 
-def fault_of(crates: Crates, crate: str) -> str:
-    """What the toolchain says of the layout of a crate, if it is another."""
-    with tempfile.TemporaryFile("w+", errors="replace") as said:
-        if is_laid_out(crates.folder(crate), said):
-            return ""
-        said.seek(0)
-        return said.read().strip() or "its files have another layout"
-
-
 def main(words: list[str]) -> int:
     parser_of(__doc__).parse_args(words)
     crates, tally = Crates(ROOT), Tally()
     for crate in crates.lines:
-        fault = fault_of(crates, crate)
+        fault = fault_of_layout(crates.folder(crate))
         tally.check(not fault, f"{crate}: {fault}")
         unfit = read_edits(crates.folder(crate), [WRONG_BODIES, MUST_FAIL])[1]
         tally.check(not unfit, "\n".join(f"{label}: {why}" for label, why in sorted(unfit.items())))

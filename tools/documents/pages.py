@@ -152,7 +152,7 @@ def files(pattern: str) -> str:
 
 def laws(words: str) -> str:
     found = [it for name in words.split() for it in functions_in(text_of(name)) if it.has_contract()]
-    return table("Law | What it says", ((f"`{it.name}`", first_paragraph(it.about)) for it in found))
+    return table("Law | What it says", ((f"`{it.name}`", begun(it.about, "  ")) for it in found))
 
 
 def bodies(words: str) -> str:
@@ -213,17 +213,13 @@ def faults_of_promises(block: str) -> Iterator[str]:
 def about(crate: str) -> str:
     """The first sentence of a crate's first comment."""
     path = next(it for name in ("lib", "main") if (it := Crates().folder(crate) / f"src/{name}.rt").is_file())
-    return first_sentence(" ".join(it[4:] for it in path.read_text(encoding="utf-8").splitlines() if it.startswith("//!")))
+    comment = " ".join(it[4:] for it in path.read_text(encoding="utf-8").splitlines() if it.startswith("//!"))
+    return begun(comment, r"(?<=[.:]) (?=[A-Z`])|  ")
 
 
-def first_paragraph(text: str) -> str:
-    """The first paragraph of a comment, as a cell of a table."""
-    return text.split("  ")[0].rstrip(".").replace("|", "\\|")
-
-
-def first_sentence(text: str) -> str:
-    """The first sentence of a comment, as a cell of a table."""
-    return re.split(r"(?<=[.:]) (?=[A-Z`])|  ", text)[0].rstrip(".:").replace("|", "\\|")
+def begun(comment: str, end: str) -> str:
+    """A comment up to this end, as a cell of a table."""
+    return re.split(end, comment)[0].rstrip(".:").replace("|", "\\|")
 
 
 def code_names(names: Iterable[str]) -> str:

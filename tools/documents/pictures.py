@@ -10,7 +10,6 @@ without a picture. Where it can't be written, no file may be another than before
 import os
 import re
 import resource
-import signal
 import tempfile
 import xml.etree.ElementTree as ET
 from pathlib import Path
@@ -34,7 +33,6 @@ UNWRITABLE_HERE = {
     **dict.fromkeys(NO_PICTURES, "it exists and is not an SVG, so it is left as it is"),
     **{"pipe": NO_FILE, "": "it is a directory", "loop": "its symbolic links form a loop"},
 }
-TOO_LARGE = "it would be too large"
 
 # a script, and a picture of before, which is replaced
 LEAK = "proc main\nptr a\nalloc a 16\nend\n"
@@ -70,11 +68,6 @@ COLUMNS = (
     *(("run", 1_999, 1), ("run", 2_000, 2), ("run", 3_999, 2), ("run", 4_000, 3), ("run", 5_999, 3), ("run", 6_000, 4)),
     *(("sweep", 999, 1), ("sweep", 1_000, 2), ("sweep", 1_999, 2), ("sweep", 2_000, 3)),
 )
-
-
-def bound_files() -> None:
-    signal.signal(signal.SIGXFSZ, signal.SIG_IGN)
-    resource.setrlimit(resource.RLIMIT_FSIZE, (1000, 1000))
 
 
 class Pictures(Trials):
@@ -114,8 +107,10 @@ class Pictures(Trials):
             self.check_left(name, why)
         for name, why in UNWRITABLE_HERE.items():
             self.check_left(self.room / name, why)
+        # Python ignores the signal that would end a program here, and so does what it runs
+        bound: dict[str, Any] = {"restore_signals": False, "preexec_fn": lambda: resource.setrlimit(resource.RLIMIT_FSIZE, (1000, 1000))}
         for name in ("old", "never.svg"):
-            self.check_left(self.room / name, TOO_LARGE, preexec_fn=bound_files)
+            self.check_left(self.room / name, "it would be too large", **bound)
 
     def check_streams(self) -> None:
         """Neither the report, nor a script on standard input, nor the messages are replaced."""

@@ -93,18 +93,12 @@ class Choice:
 
 
 def choose(verdicts: Verdicts, crates: list[str], opened: list[OpenSource], kinds: list[str]) -> Choice:
-    """The open sources of these crates, and two crates besides of which others stand, picked by the commit. Says what stands."""
+    """The open sources of these crates, and two crates besides of which others stand, picked by the commit."""
     sources = {it: [one.source for one in opened if one.crate == it] for it in crates}
-    standing = {it: rest for it in crates if (rest := verdicts.sources(it).keys() - sources[it])}
+    standing = [it for it in crates if verdicts.sources(it).keys() - sources[it]]
     ran = subprocess.run(["git", "rev-parse", "HEAD"], cwd=verdicts.crates.root, capture_output=True, text=True)
-    known = verdicts.read()
-    seed = ran.stdout.strip() or "".join(it.checksum for it in known.values())
-    picked = random.Random(seed).sample(list(standing), min(PICKED, len(standing)))
-    for crate, rest in standing.items():
-        settled = [known[f"{crate}/{it}"] for it in rest]
-        count = sum(it.count for it in settled)
-        again = f", of which {min(PICKED_EDITS, count)} are picked to be tried again" if crate in picked else ""
-        print(f"{crate}: {count} wrong bodies were disproved by {max(it.day for it in settled)}{again}", flush=True)
+    seed = ran.stdout.strip() or "".join(it.checksum for it in verdicts.read().values())
+    picked = random.Random(seed).sample(standing, min(PICKED, len(standing)))
     return Choice(verdicts, {crate: it for crate, it in sources.items() if it}, picked, seed, kinds, [])
 
 

@@ -21,6 +21,8 @@ NAME = re.compile(r"^\[([a-z0-9]+(?:-[a-z0-9]+)*)\]$", re.MULTILINE)
 # how a function begins, with its name
 HEAD = re.compile(rf"{FUNCTION_HEAD}(\w+)")
 FUNCTIONS = "function: "
+# a pair of texts, perhaps below the file that it is of
+CHANGE = re.compile(r"^(?:file: *(\S+) *\n+)?old: ?(.*)\nnew: ?(.*)\n+", re.MULTILINE)
 EVERY_CLAUSE = "every clause of "
 
 
@@ -95,33 +97,16 @@ def edits_in(folder: Path) -> Iterator[WrittenEdit]:
 
 def written_edit(name: str, text: str, source: str) -> WrittenEdit:
     """The edit of that name which this text says, of that source where it names no other."""
-    lines = text.removeprefix("\n").splitlines()
-    functions = lines[0] if lines else ""
-    try:
-        if not functions.startswith(FUNCTIONS):
-            raise BadEdit("its first line isn't 'function: PATH', or several paths with commas between them")
-        return WrittenEdit(name, functions.removeprefix(FUNCTIONS), tuple(changes_of(lines[1:], source)))
-    except BadEdit as why:
-        return WrittenEdit(name, functions, fault=str(why))
-
-
-def changes_of(lines: list[str], file: str) -> Iterator[tuple[str, str, str]]:
-    """The file, the old text and the new text of each pair."""
-    old = ""
-    for line in lines:
-        word, _, text = line.partition(":")
-        text = text.removeprefix(" ")
-        if word == "file" and not old:
-            file = text.strip()
-        elif word == "old" and not old:
-            old = text
-        elif word == "new" and file and old:
-            yield file, old, text
-            old = ""
-        elif line.strip():
-            raise BadEdit(f"it has a line that isn't understood where it stands: {line}")
-    if old:
-        raise BadEdit("an 'old:' text has no new one")
+    functions, _, lines = (text.strip("\n") + "\n").partition("\n")
+    changes: list[tuple[str, str, str]] = []
+    for file, old, new in CHANGE.findall(lines):
+        source = file or source
+        changes.append((source, old, new))
+    if not functions.startswith(FUNCTIONS):
+        return WrittenEdit(name, functions, fault="its first line isn't 'function: PATH', or several paths with commas between them")
+    if other := CHANGE.sub("", lines).strip():
+        return WrittenEdit(name, functions, fault=f"it has a line that isn't understood where it stands: {other.splitlines()[0]}")
+    return WrittenEdit(name, functions.removeprefix(FUNCTIONS), tuple(changes))
 
 
 def read_edits(crate: Path, folders: list[str]) -> tuple[list[Edit], dict[str, str]]:

@@ -293,7 +293,7 @@ BAD = (
         ("all.edits", f"{NARROW}{HEAD}{lines}\n", "even", NOT_UNDERSTOOD)
         for lines in (
             *("old: 5\nfile: src/narrow.rt\nnew: 6", "old: 5\nold: 5\nnew: 6"),
-            *("new: 6", "[Even]\nold: 5\nnew: 6", "function: low::x", "=== narrow.rt\nold: 5\nnew: 6"),
+            *("old: 5", "new: 6", "[Even]\nold: 5\nnew: 6", "function: low::x", "=== narrow.rt\nold: 5\nnew: 6"),
         )
     ),
     ("all.edits", NARROW + HEAD, "even", "it changes nothing"),
@@ -301,7 +301,6 @@ BAD = (
         ("all.edits", f"{NARROW}{HEAD}old: {old}\nnew: 6\n", "even", f"an 'old:' text is in src/narrow.rt {count} times, and not once")
         for old, count in (("6", 0), ("u", 2))
     ),
-    ("all.edits", f"{NARROW}{HEAD}old: 5\n", "even", "an 'old:' text has no new one"),
     ("all.edits", f"{NARROW}[even]\nold: 5\nnew: 6\n", "even", "its first line isn't 'function: PATH'"),
     ("all.edits", f"{NARROW}[even]\nfunction: \nold: 5\nnew: 6\n", "even", "its first line names no function"),
 )
