@@ -30,8 +30,9 @@ that is named and isn't there."""
 import re
 import shlex
 from collections.abc import Callable, Iterable, Iterator
+from difflib import unified_diff
 from functools import cache
-from itertools import pairwise, zip_longest
+from itertools import pairwise
 from pathlib import Path
 from typing import NamedTuple, NoReturn
 
@@ -293,16 +294,6 @@ def with_blocks(text: str, faults: list[str]) -> str:
     return BLOCK.sub(written, text)
 
 
-def stale_blocks(text: str, made: str) -> Iterator[str]:
-    """Which blocks of a page aren't what the sources give, each with the page's first line that differs."""
-    for old, new in zip(BLOCK.finditer(text), BLOCK.finditer(made), strict=True):
-        rows = enumerate(zip_longest(old[0].splitlines(), new[0].splitlines(), fillvalue=""))
-        for at, (found, wanted) in (it for it in rows if it[1][0] != it[1][1]):
-            line = text.count("\n", 0, old.start()) + at + 1
-            yield f"line {line}, {old[1]}{old[2]}: `{found}` and what follows aren't what the sources give: `{wanted}`"
-            break
-
-
 def with_runs(text: str, program: Path, faults: list[str]) -> str:
     """A page with its examples of reports as the program answers; where it answers otherwise, that is added to the faults."""
 
@@ -362,7 +353,8 @@ def main(words: list[str]) -> int:
         if given.write:
             page.write_text(made, encoding="utf-8")
         elif made != text and not given.runs:
-            faults += [*stale_blocks(text, made), "./tools/dev pages --write writes its blocks anew"]
+            faults += unified_diff(text.splitlines(), made.splitlines(), "what it holds", "what the sources give", n=0, lineterm="")
+            faults.append("./tools/dev pages --write writes its blocks anew")
         faults += [] if given.runs else faults_of(page, made)
         tally.check(not faults, "\n".join(f"{page}: {it}" for it in faults))
     return tally.end()

@@ -99,7 +99,7 @@ class OfPages(InRoom):
             written = self.page.read_text(encoding="utf-8")
             self.assertEqual(self.said(written).status, 0, words)
             self.assertIn(right, written, words)
-            self.assert_stale(written.replace(right, stale, 1), "aren't what the sources give")
+            self.assert_stale(written.replace(right, stale, 1), "+++ what the sources give")
 
     def test_faults(self) -> None:
         for text, fault in FAULTS.items():
