@@ -13,6 +13,7 @@ import argparse
 import json
 import re
 import sys
+import textwrap
 from collections import Counter
 from collections.abc import Iterable
 from itertools import groupby
@@ -255,11 +256,7 @@ def wrapped(line: str) -> str:
     """A line, broken at blanks where it is too long; what comes after a break is indented. Of imported names each has a line then."""
     if len(line) > WIDTH and (names := re.fullmatch(r"(use \S+\.\{)(.*)\}", line)):
         return "\n".join([names[1], *(f"  {name}," for name in names[2].split(", ")), "}"])
-    lines = []
-    while len(line) > WIDTH and (at := line.rfind(" ", 5, WIDTH + 1)) > 0:
-        lines.append(line[:at])
-        line = "    " + line[at + 1 :]
-    return "\n".join([*lines, line])
+    return textwrap.fill(line, WIDTH, subsequent_indent="    ", break_long_words=False, break_on_hyphens=False)
 
 
 def without_unused(lines: list[str]) -> str:

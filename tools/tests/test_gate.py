@@ -41,11 +41,6 @@ CODE = {
 }
 
 
-def pass_once(runs: ToolRuns, tool: ToolRun, jobs: int) -> None:
-    """Takes a tool as run, which counts one."""
-    runs.outcomes.append(Outcome(tool.name(), Tally(1, 0), 0.0, 0.0))
-
-
 def the_gate() -> ModuleType:
     """The gate's own functions; its file has no ending, so it is read by its path."""
     gate = ModuleType("gate")
@@ -89,6 +84,9 @@ class OfTheGate(InRoom):
         self.assertEqual([it[3] for it in words if it[2] != TOOLS / "dev" or it[3] not in COMMANDS], ["discover"])
 
     def test_each_tool_that_runs_the_program_is_run_once(self) -> None:
+        def pass_once(runs: ToolRuns, tool: ToolRun, jobs: int) -> None:
+            runs.outcomes.append(Outcome(tool.name(), Tally(1, 0), 0.0, 0.0))
+
         with patch.object(ToolRuns, "run", autospec=True, side_effect=pass_once) as ran:
             counted = self.gate.runs()
         names = [it.args[1].name() for it in ran.call_args_list]
