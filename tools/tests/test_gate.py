@@ -1,4 +1,4 @@
-"""What counts as a failure of the gate, `./test`; how it runs tools side by side; and how it shows a run of `rt ci`."""
+"""What counts as a failure of the gate, `./test`; how it runs tools side by side; and what it says of a run of `rt ci`."""
 
 import contextlib
 import io
@@ -12,8 +12,9 @@ from unittest.mock import DEFAULT, patch
 from tools import gate as gate_tools
 from tools.common import ROOT, TOOLS, Tally
 from tools.comparisons.compare import KINDS
+from tools.crates import Crates
 from tools.door import COMMANDS, said_by
-from tools.gate import Outcome, ToolRun, ToolRuns
+from tools.gate import Outcome, ProofChain, ToolRun, ToolRuns
 from tools.tests import InRoom
 
 BUSY = "import time\nwhile time.process_time() < 0.3: pass\nprint('1 passed, 0 failed')"
@@ -39,6 +40,8 @@ CODE = {
     "parent": f"import subprocess, sys; sys.exit(subprocess.run([sys.executable, '-c', {BUSY!r}]).returncode)",
     "meeting": MEETING,
 }
+
+CRATES = "# from the program down\nmain: page run kit_crate\npage: run word\nrun: heap word\nheap: word\nword:\n"
 
 
 def the_gate() -> ModuleType:
@@ -105,12 +108,13 @@ class OfTheGate(InRoom):
             self.assertEqual((part.is_needed, tally.call_args.args[0][-3:]), (False, last))
             self.assertEqual(tally.call_args.kwargs["may_be_none"], not is_all)
 
-    def test_the_minutes_of_proofs(self) -> None:
+    def test_the_chain_of_proofs(self) -> None:
         self.put("rt", "#!/bin/sh\necho 'rt: wb_basics proved'\necho '3 passed, 0 failed'\n")
         path = f"{self.room}{os.pathsep}{os.environ['PATH']}"
         with patch.dict(os.environ, PATH=path), patch.object(self.gate, "building", contextlib.nullcontext):
             self.assertEqual(self.gate.gate(), Tally(3, 0))
-        self.assertEqual(self.said.getvalue(), "   0.0  rt: wb_basics proved\n   0.0  3 passed, 0 failed\n")
+        said = "(?s)rt: wb_basics proved\n3 passed, 0 failed\n.*\n    wb_basics +0.0 +0.0  waited for no crate\n"
+        self.assertRegex(self.said.getvalue(), said)
 
     def test_what_is_tried_after_a_failure(self) -> None:
         for is_needed, first, total in (
@@ -173,3 +177,43 @@ class OfTheGate(InRoom):
         # what a tool runs itself counts, and what it waits for doesn't
         self.assertEqual([worked[it] >= 0.3 for it in ("waiting", "busy", "parent")], [False, True, True])
         self.assertEqual(list(worked.values()), sorted(worked.values(), reverse=True))
+
+
+# lines of a run of `rt ci`, each with its minute; how long the run took; and some of what is said of it, without columns of blanks
+CHAINS: list[tuple[int, list[tuple[int, str]], list[str]]] = [
+    (20, [(minute, f"{name} proved") for name, minute in {"word": 2, "heap": 5, "run": 9, "page": 11, "main": 12}.items()], [
+        "word 0.0 2.0 waited for no crate", "heap 2.0 5.0 waited for word", "run 5.0 9.0 waited for heap", "page 9.0 11.0 waited for run",
+        "main 11.0 12.0 waited for page", "main 1.0", "page 2.0", "run 4.0", "heap 3.0", "word 2.0",
+        "in all 12.0, and 8.0 more until the run ended",
+    ]),
+    # a crate stands on all below its libraries too, and one that is kept ends at once
+    (8, [(3, "heap proved"), (4, "run is kept: an earlier run proved it"), (7, "word proved"), (8, "page proved")], [
+        "heap 0.0 3.0 waited for no crate", "word 0.0 7.0 waited for no crate",
+        "page 7.0 8.0 waited for word", "page 1.0", "word 7.0", "in all 8.0, and 0.0 more until the run ended",
+    ]),
+    (6, [*((1, f"{it} is kept: an earlier run on this machine proved it") for it in ("word", "heap")), (6, "run proved")], [
+        "run 0.0 6.0 waited for no crate", "run 6.0", "in all 6.0, and 0.0 more until the run ended",
+    ]),
+    # what stands on a crate doesn't wait for its tests
+    (6, [(2, "word proved"), (4, "heap proved"), (6, "heap: its tests are proved"), (5, "run proved")], [
+        "word 0.0 2.0 waited for no crate", "heap 2.0 4.0 waited for word", "heap's tests 2.0 6.0 waited for word",
+        "run 4.0 5.0 waited for heap", "heap's tests 4.0", "word 2.0", "in all 6.0, and 0.0 more until the run ended",
+    ]),
+    # where a library failed, nothing was proved
+    (2, [(2, "word NOT PROVED"), (2, "heap NOT PROVED: its library word failed")], [
+        "word 0.0 2.0 waited for no crate", "word 2.0", "in all 2.0, and 0.0 more until the run ended",
+    ]),
+    (1, [(1, it) for it in ("word::at: proved", "word: trying its must-fail edits (3)", "other proved", "note: rt: word proved")], []),
+]
+
+
+class ChainOfRun(InRoom):
+    def test_chains(self) -> None:
+        self.put("crates.txt", CRATES)
+        for minutes, heard, wanted in CHAINS:
+            chain = ProofChain(Crates(self.room))
+            for minute, line in heard:
+                chain.hear(f"rt: {line}\n", 60.0 * minute)
+            lines = list(chain.lines(60.0 * minutes))
+            self.assertEqual([" ".join(it.split()) for it in lines if it.startswith("    ")], wanted)
+            self.assertEqual(lines[0] == "no proof was done in this run, so there is no chain", not wanted)
