@@ -21,7 +21,6 @@ module _ (failures : Failures) (script : Script) (budget : ℕ) (shape : Shape) 
     same_script = is.same_script;
     same_budget = is.same_budget;
     same_shape = is.same_shape;
-    lines = is.lines;
     allowed = is.allowed;
     uncut = fine_is_uncut (runs_of failures script budget shape 0) is.run_is.fine;
     taken = is.run_is.taken;
@@ -40,7 +39,6 @@ module _ (failures : Failures) (script : Script) (budget : ℕ) (shape : Shape) 
     same_script = ahead.same_script;
     same_budget = ahead.same_budget;
     same_shape = ahead.same_shape;
-    lines = ahead.lines;
     allowed = ahead.allowed;
     run_is = record { fine = is.run_is.fine; taken = ahead.taken };
   }

@@ -1,5 +1,5 @@
 -- What follows for a fork that goes on like the scout.
-use Rattle.std.proofs.Common.{◌≡◌, ◌≢◌, ℕ, ◌+◌, ◌<◌, ◌≤◌, Bool, false, Some, refl, sym, ap, ◌∙◌, arith, inl}
+use Rattle.std.proofs.Common.{◌≡◌, ◌≢◌, ℕ, ◌+◌, ◌<◌, ◌≤◌, Bool, not, ◌&&◌, false, Some, refl, sym, ap, ◌∙◌, arith, inl}
 use Rattle.std.proofs.lemmas.Bool.{true≢false}
 use Rattle.wb_machine.specs.Alike.{reached_by, whole_run_under}
 use Rattle.wb_machine.specs.Seen.{Seen}
@@ -7,15 +7,17 @@ use Rattle.wb_runs.specs.declared.failures.Failures.{Failures}
 use Rattle.wb_runs.specs.declared.failures.Failures.TheVariants.{Single, Every, Pairs, Persistent}
 use Rattle.wb_heap_model.specs.declared.heap.Rule.{Rule}
 use Rattle.wb_heap_model.specs.declared.heap.Shape.{Shape}
+use Rattle.wb_meaning.specs.declared.run.Outcome.{Outcome}
 use Rattle.wb_meaning.specs.declared.run.Outcome.TheVariants.{Cut}
 use Rattle.wb_meaning.specs.declared.run.RunResult.{RunResult}
 use Rattle.wb_meaning.specs.declared.run.Why.TheVariants.{Budget}
 use Rattle.wb_tree.specs.declared.script.Script.{Script}
 use Rattle.wb_renaming.specs.Follows.{ComesToTheSame, Reached, RefusesAlike, RestsAgree}
-use Rattle.wb_meaning.specs.Run.{run, whole_run, WholeRun}
+use Rattle.wb_meaning.specs.Run.{is_bad_outcome, run, WholeRun}
 use Rattle.wb_runs.specs.RunEnds.{end_of}
-use Rattle.wb_runs.specs.Sweeps.{is_cut_outcome, is_fine, rule_of}
+use Rattle.wb_runs.specs.Sweeps.{is_cut_outcome, rule_of}
 use Rattle.wb_renaming.proofs.FollowEither.{numbers-alike}
+use Rattle.wb_machine.proofs.whole_runs.OverRuns.{outcome_of_whole, steps_of_whole}
 use Rattle.wb_runs.proofs.SameJudged.{end-same, judged-same}
 use Rattle.wb_sweep.specs.declared.scout.Scout.{Scout}
 use Rattle.wb_sweep.specs.Beside.{runs_beside}
@@ -31,21 +33,35 @@ lies-behind Pairs n first last here there e f le more =
 lies-behind Every n first last here there e f le more = cc
 lies-behind Persistent n first last here there e f le more = cc
 
--- a run of a machine that keeps lines, under a rule, is the one of its script, that rule, its budget and its shape
-pub run-under : (m : Seen) (rule : Rule) (script : Script) (budget : ℕ) (shape : Shape) → m.keeps_rises ≡ false → m.script ≡ script → m.budget ≡ budget →
-    m.shape ≡ shape → (whole_run_under rule m).result ≡ run script rule budget shape
-run-under m rule script budget shape lines f g h =
-    ap (λ (b : Bool). (whole_run b m.script rule m.budget m.shape).result) lines
-    ∙ ap (λ (s : Script). run s rule m.budget m.shape) f
+run-of : (m : Seen) (rule : Rule) (script : Script) (budget : ℕ) (shape : Shape) → m.script ≡ script → m.budget ≡ budget → m.shape ≡ shape →
+    run m.script rule m.budget m.shape ≡ run script rule budget shape
+run-of m rule script budget shape f g h =
+    ap (λ (s : Script). run s rule m.budget m.shape) f
     ∙ ap (λ (b : ℕ). run script rule b m.shape) g
     ∙ ap (λ (s : Shape). run script rule budget s) h
+
+-- a machine's run under a rule ends as the run of its script, that rule, its budget and its shape does, whatever the machine keeps
+pub outcome-under : (m : Seen) (rule : Rule) (script : Script) (budget : ℕ) (shape : Shape) → m.script ≡ script → m.budget ≡ budget → m.shape ≡ shape →
+    (whole_run_under rule m).result.outcome ≡ (run script rule budget shape).outcome
+outcome-under m rule script budget shape f g h =
+    outcome_of_whole (record m { rule = rule }) ∙ ap (λ (r : RunResult). r.outcome) (run-of m rule script budget shape f g h)
+
+-- and takes as many steps
+pub steps-under : (m : Seen) (rule : Rule) (script : Script) (budget : ℕ) (shape : Shape) → m.script ≡ script → m.budget ≡ budget → m.shape ≡ shape →
+    (whole_run_under rule m).result.steps ≡ (run script rule budget shape).steps
+steps-under m rule script budget shape f g h =
+    steps_of_whole (record m { rule = rule }) ∙ ap (λ (r : RunResult). r.steps) (run-of m rule script budget shape f g h)
+
+-- whether a run is fine, by how it ended
+abbrev is_fine_outcome : Outcome → Bool
+is_fine_outcome outcome = not (is_bad_outcome outcome) && not (is_cut_outcome outcome)
 
 -- a run that isn't cut isn't cut by the budget
 uncut-by : (result : RunResult) → is_cut_outcome result.outcome ≡ false → result.outcome ≢ Cut Budget
 uncut-by result uncut e = true≢false (sym (ap is_cut_outcome e) ∙ uncut)
 
 module _ (failures : Failures) (fork : Seen) (scout : Scout) (n : ℕ) (is : IsAhead failures fork.script fork.budget fork.shape scout) (rule : fork.rule ≡ rule_of failures n)
-    (lines : fork.keeps_rises ≡ false) (met : HasMet failures n fork scout.machine) where
+    (met : HasMet failures n fork scout.machine) where
   abbrev first : RunResult
   first = runs_beside failures fork 0
 
@@ -55,14 +71,14 @@ module _ (failures : Failures) (fork : Seen) (scout : Scout) (n : ℕ) (is : IsA
   abbrev along : WholeRun
   along = whole_run_under (rule_of failures n) fork
 
-  ran : ahead.result ≡ first
-  ran = run-under scout.machine (rule_of failures 0) fork.script fork.budget fork.shape is.lines is.same_script is.same_budget is.same_shape
+  ran : ahead.result.outcome ≡ first.outcome
+  ran = outcome-under scout.machine (rule_of failures 0) fork.script fork.budget fork.shape is.same_script is.same_budget is.same_shape
 
-  forked : along.result ≡ runs_beside failures fork n
-  forked = run-under fork (rule_of failures n) fork.script fork.budget fork.shape lines refl refl refl
+  forked : along.result.outcome ≡ (runs_beside failures fork n).outcome
+  forked = outcome-under fork (rule_of failures n) fork.script fork.budget fork.shape refl refl refl
 
   uncut : ahead.result.outcome ≢ Cut Budget
-  uncut e = uncut-by first is.uncut (ap (λ (r : RunResult). r.outcome) (sym ran) ∙ e)
+  uncut e = uncut-by first is.uncut (sym ran ∙ e)
 
   behind : RefusesAlike (rule_of failures 0) (rule_of failures n) (reached_by scout.machine) (reached_by fork)
   behind =
@@ -73,16 +89,16 @@ module _ (failures : Failures) (fork : Seen) (scout : Scout) (n : ℕ) (is : IsA
 
   -- its steps
   took : scout.steps ≡ ahead.result.steps
-  took = is.taken ∙ ap (λ (r : RunResult). r.steps) (sym ran)
+  took = is.taken ∙ sym (steps-under scout.machine (rule_of failures 0) fork.script fork.budget fork.shape is.same_script is.same_budget is.same_shape)
 
   same : scout.steps + fork.steps ≤ scout.budget + scout.machine.steps → ComesToTheSame (reached_by scout.machine) (reached_by fork) ahead along
   same within = agree.alike (omega (arith, within, took, is.allowed))
 
   pub met-alike : scout.steps + fork.steps ≤ scout.budget + scout.machine.steps → EndsAlike (runs_beside failures fork 0) (runs_beside failures fork n)
   met-alike within = record {
-    end = ap (λ (r : RunResult). end_of r.outcome) (sym forked) ∙ end-same (same within).outcome ∙ ap (λ (r : RunResult). end_of r.outcome) ran;
-    fine = ap is_fine (sym forked) ∙ (judged-same ahead.result along.result (same within).outcome).1 ∙ ap is_fine ran;
+    end = ap end_of (sym forked) ∙ end-same (same within).outcome ∙ ap end_of ran;
+    fine = ap is_fine_outcome (sym forked) ∙ (judged-same ahead.result along.result (same within).outcome).1 ∙ ap is_fine_outcome ran;
   }
 
   pub met-cut : scout.budget + scout.machine.steps < scout.steps + fork.steps → (runs_beside failures fork n).outcome ≡ Cut Budget
-  met-cut past = ap (λ (r : RunResult). r.outcome) (sym forked) ∙ agree.cut (omega (arith, past, took, is.allowed))
+  met-cut past = sym forked ∙ agree.cut (omega (arith, past, took, is.allowed))

@@ -48,7 +48,6 @@ pub record IsAhead (failures : Failures) (script : Script) (budget : ℕ) (shape
   pub same_script : scout.machine.script ≡ script
   pub same_budget : scout.machine.budget ≡ budget
   pub same_shape : scout.machine.shape ≡ shape
-  pub lines : scout.machine.keeps_rises ≡ false
   pub allowed : scout.budget ≡ budget
   pub uncut : is_cut_outcome (runs_of failures script budget shape 0).outcome ≡ false
   pub taken : scout.steps ≡ (runs_of failures script budget shape 0).steps
@@ -59,7 +58,6 @@ pub record IsScout (failures : Failures) (script : Script) (budget : ℕ) (shape
   pub same_script : scout.machine.script ≡ script
   pub same_budget : scout.machine.budget ≡ budget
   pub same_shape : scout.machine.shape ≡ shape
-  pub lines : scout.machine.keeps_rises ≡ false
   pub allowed : scout.budget ≡ budget
   pub run_is : IsFineRun (runs_of failures script budget shape 0) scout.steps
 
@@ -76,13 +74,13 @@ MeetingSays PastBudget first result = result.outcome ≡ Cut Budget
 -- and what is known of the run of a fork that was followed
 abbrev pub ForkedSays : Forked → RunResult → RunResult → Type 0
 ForkedSays (Met meeting) first result = MeetingSays meeting first result
-ForkedSays (Ran known) first result = known ≡ result
+ForkedSays (Ran known) first result = known ≡ result.outcome
 
 -- the same beside a run that is fine: then that of a fork that met the scout is, too
 abbrev pub FineSays : Forked → RunResult → Type 0
 FineSays (Met Alike) result = is_fine result ≡ true
 FineSays (Met PastBudget) result = result.outcome ≡ Cut Budget
-FineSays (Ran known) result = known ≡ result
+FineSays (Ran known) result = known ≡ result.outcome
 
 -- whether a fork has met the scout
 abbrev pub is_met : Forked → Bool

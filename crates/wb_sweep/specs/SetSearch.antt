@@ -25,7 +25,6 @@ pub record IsForkTo (lead : Seen) (numbers : List ℕ) (number : ℕ) (fork : Se
   pub begun : fork.begun ≡ true
   pub within : fork.steps ≤ fork.budget
   pub well : fork.failed ≡ false
-  pub lines : fork.keeps_rises ≡ false
   pub start : fork.attempts ≤ number
 
 -- so many further numbers, ascending past one

@@ -17,6 +17,7 @@ ghost use Rattle.wb_sweep.specs.AllOfAPart.{AreAllNumbers, IsFoundAsFirst};
 use crate::fault::SweepFault;
 use crate::followed::{Forked, follow_next};
 use crate::found::{AllNumbers, Found, Listing};
+use crate::lead::lead_under;
 use crate::scout::{Meeting, Scout, scout_beside};
 use crate::walk::attempts_in;
 use std::alloc::Global;
@@ -63,7 +64,7 @@ fn end_of_fork(forked: &Forked, first: RunEnd) -> RunEnd
     match forked {
         Forked::Met(Meeting::Alike) => first,
         Forked::Met(Meeting::PastBudget) => RunEnd::Cut(Why::Budget),
-        Forked::Ran(run_result) => RunEnd::of(&run_result.outcome),
+        Forked::Ran(outcome) => RunEnd::of(outcome),
     }
 }
 
@@ -112,7 +113,6 @@ fn tell_next<P: Progress>(
 ) -> Result<(), NoMemory>
     requires number { number ≡ lead.now.attempts + 1 }
     requires rule { lead.now.rule ≡ rule_of failures 0 }
-    requires lines { lead.now.keeps_rises ≡ false }
     requires end { first ≡ end_of
         (runs_of failures lead.now.script lead.now.budget lead.now.shape 0).outcome }
     requires scout { IfSome scout.old
@@ -153,7 +153,6 @@ fn tell_along<P: Progress>(
     requires rule { lead.old.rule ≡ rule_of failures 0 }
     requires start { (lead.old.begun ≡ false) × (lead.old.attempts ≡ 0) × (lead.old.steps ≡ 0) }
     requires well { lead.old.failed ≡ false }
-    requires lines { lead.old.keeps_rises ≡ false }
     requires last { last
         ≤ last_attempt failures lead.old.script lead.old.budget lead.old.shape }
     requires end { first ≡ end_of
@@ -264,7 +263,7 @@ fn tell_later<P: Progress>(
         (ends.new ≡ listed_in listing (runs_of failures script.now budget shape) part) }
     ensures shape { result ≡ Err RunFault.BadShape → is_shape shape ≡ false }
 {
-    let mut lead = Machine::new(alloc, script, failures.at(0).rule(), budget, shape)?;
+    let mut lead = lead_under(alloc, script, failures.at(0).rule(), budget, shape)?;
     let mut scout = scout_beside(&lead, failures, Some(steps), budget)?;
     let end = part.to.min(last);
     tell_along(

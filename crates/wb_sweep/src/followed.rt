@@ -12,7 +12,7 @@ use crate::fork::{end_fork, fork_under};
 use crate::scout::{Meeting, Scout};
 use wb_basics::memory::NoMemory;
 use wb_machine::{Heap, Machine};
-use wb_meaning::run::RunResult;
+use wb_meaning::run::Outcome;
 use wb_runs::failures::Failures;
 
 /// What is known of a fork's run.
@@ -21,7 +21,7 @@ pub enum Forked {
     /// The fork has met the scout.
     Met(Meeting),
     /// The fork was followed to its end.
-    Ran(RunResult),
+    Ran(Outcome),
 }
 
 /// Lets a fork meet the scout, and returns what follows for the fork; `None` if the two don't meet soon.
@@ -33,7 +33,6 @@ fn meet_one(
 ) -> Result<Option<Meeting>, NoMemory>
     requires scout { IsAhead failures fork.old.script fork.old.budget fork.old.shape scout.old }
     requires rule { fork.old.rule ≡ rule_of failures number }
-    requires lines { fork.old.keeps_rises ≡ false }
     ensures scout { OnOk result
         (IsAhead failures fork.old.script fork.old.budget fork.old.shape scout.new) }
     ensures met { IfOk result (λ met. IfSome met (λ meeting.
@@ -57,7 +56,6 @@ fn meet(
     requires scout { IfSome scout.old
         (IsAhead failures fork.old.script fork.old.budget fork.old.shape) }
     requires rule { fork.old.rule ≡ rule_of failures number }
-    requires lines { fork.old.keeps_rises ≡ false }
     ensures scout { OnOk result (IfSome scout.new
         (IsAhead failures fork.old.script fork.old.budget fork.old.shape)) }
     ensures met { IfOk result (λ met. IfSome met (λ meeting.
@@ -89,7 +87,6 @@ pub fn follow_next(
     requires rule { lead.now.rule ≡ rule_of failures 0 }
     requires going { lead.now.over ≡ false }
     requires well { lead.now.failed ≡ false }
-    requires lines { lead.now.keeps_rises ≡ false }
     requires scout { IfSome scout.old
         (IsAhead failures lead.now.script lead.now.budget lead.now.shape) }
     ensures scout { OnOk result (IfSome scout.new
@@ -120,7 +117,6 @@ pub fn follow_beside_fine(
     requires rule { lead.now.rule ≡ rule_of failures 0 }
     requires going { lead.now.over ≡ false }
     requires well { lead.now.failed ≡ false }
-    requires lines { lead.now.keeps_rises ≡ false }
     requires scout { IfSome scout.old
         (IsScout failures lead.now.script lead.now.budget lead.now.shape) }
     ensures scout { OnOk result (IfSome scout.new

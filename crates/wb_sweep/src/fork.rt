@@ -7,7 +7,8 @@ ghost use Rattle.wb_meaning.specs.Run.{run};
 use wb_basics::memory::NoMemory;
 use wb_heap_model::heap::Rule;
 use wb_machine::{Finished, Heap, Machine};
-use wb_meaning::run::RunResult;
+use wb_meaning::run::{Outcome, RunResult};
+use wb_runs::progress::Silent;
 
 /// A copy of a run under way. The copy goes on under another rule. Both rules make the same past attempts fail, and neither rule is a
 /// limit. The run itself stays as it is.
@@ -21,7 +22,6 @@ pub(crate) fn fork_under<'a>(
     requires same { SameSoFar rule lead.now.rule lead.now.attempts }
     requires going { lead.now.over ≡ false }
     requires well { lead.now.failed ≡ false }
-    requires lines { lead.now.keeps_rises ≡ false }
     ensures { IfOk result (λ fork. fork ≡ record lead.now { rule = rule }) }
 {
     let mut fork = lead.try_copy_over(spare.take())?;
@@ -29,15 +29,33 @@ pub(crate) fn fork_under<'a>(
     Ok(fork)
 }
 
-/// Takes a fork to its end, and returns its result. The fork's memory is left in `spare`, except on `Err`.
-pub(crate) fn end_fork(fork: Machine, spare: &mut Option<Heap>) -> Result<RunResult, NoMemory>
-    requires lines { fork.keeps_rises ≡ false }
-    ensures { IfOk result (λ run_result.
-        run_result ≡ run fork.entry.script fork.entry.rule fork.entry.budget fork.entry.shape) }
+/// Takes a fork to its end, and returns the outcome of its run. The fork's memory is left in `spare`, except on `Err`.
+pub(crate) fn end_fork(mut fork: Machine, spare: &mut Option<Heap>) -> Result<Outcome, NoMemory>
+    ensures { IfOk result (λ outcome. outcome
+        ≡ (run fork.entry.script fork.entry.rule fork.entry.budget fork.entry.shape).outcome) }
 {
-    let Finished { result, heap } = fork.finish()?;
-    *spare = Some(heap);
-    Ok(result)
+    fork.take_all_turns(&mut Silent)?;
+    let ended = fork.ended()?;
+    *spare = Some(fork.into_heap());
+    Ok(ended.outcome)
+}
+
+/// The outcome of a run under way if it goes on under another rule. Both rules make the same past attempts fail, and neither rule is a
+/// limit. A copy of the run goes on to its end, and the run itself stays as it is.
+///
+/// The copy takes the memory in `spare`, if there is any, and leaves its own memory in `spare`, except on `Err`.
+pub(crate) fn outcome_under(
+    lead: &Machine,
+    rule: Rule,
+    spare: &mut Option<Heap>,
+) -> Result<Outcome, NoMemory>
+    requires same { SameSoFar rule lead.now.rule lead.now.attempts }
+    requires going { lead.now.over ≡ false }
+    requires well { lead.now.failed ≡ false }
+    ensures { IfOk result (λ outcome. outcome
+        ≡ (run lead.now.script rule lead.now.budget lead.now.shape).outcome) }
+{
+    end_fork(fork_under(lead, rule, spare)?, spare)
 }
 
 /// The result of a run under way if it goes on under another rule. Both rules make the same past attempts fail, and neither rule is a
@@ -56,5 +74,8 @@ pub fn result_under(
     ensures { IfOk result (λ run_result.
         run_result ≡ run lead.now.script rule lead.now.budget lead.now.shape) }
 {
-    end_fork(fork_under(lead, rule, spare)?, spare)
+    let fork = fork_under(lead, rule, spare)?;
+    let Finished { result, heap } = fork.finish()?;
+    *spare = Some(heap);
+    Ok(result)
 }

@@ -10,6 +10,7 @@ mod followed;
 pub mod fork;
 pub mod found;
 mod larger_sets;
+mod lead;
 mod pace;
 mod pairs;
 pub mod run_known;

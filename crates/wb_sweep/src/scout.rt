@@ -103,7 +103,6 @@ impl<'a> Scout<'a> {
         requires met { HasMet failures number fork.now self.now.machine }
         requires scout { IsAhead failures fork.now.script fork.now.budget fork.now.shape self.now }
         requires rule { fork.now.rule ≡ rule_of failures number }
-        requires lines { fork.now.keeps_rises ≡ false }
         ensures { IfSome result (λ meeting. MeetingSays meeting
             (runs_beside failures fork.now 0) (runs_beside failures fork.now number)) }
     {

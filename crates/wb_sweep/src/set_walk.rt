@@ -10,6 +10,7 @@ ghost use Rattle.wb_runs.specs.declared.failures.Failures.TheVariants.{Single};
 ghost use Rattle.wb_heap_model.specs.declared.heap.Rule.TheVariants as rules;
 ghost use Rattle.wb_meaning.specs.declared.run.Why.{Why};
 
+use crate::lead::lead_under;
 use crate::set_answer::{FoundSet, SetFault};
 use crate::sets::find_next;
 use std::alloc::Global;
@@ -35,7 +36,6 @@ fn find_among_sets<P: Progress>(
     requires rule { lead.old.rule ≡ rules.Set [] }
     requires start { (lead.old.begun ≡ false) × (lead.old.attempts ≡ 0) × (lead.old.steps ≡ 0) }
     requires well { lead.old.failed ≡ false }
-    requires lines { lead.old.keeps_rises ≡ false }
     requires few { fewer + 1 < 2 ^ 32 }
     requires uncut { IsUncut Single lead.old.script lead.old.budget lead.old.shape }
     requires last { last ≡ last_attempt Single lead.old.script lead.old.budget lead.old.shape }
@@ -94,7 +94,7 @@ fn find_of_many<P: Progress>(
     progress.begin_sets(fewer + 1);
     let none = Numbers::new(alloc);
     let rule = Rule::Set(Numbers::new(alloc));
-    let mut lead = Machine::new(alloc, script, rule, budget, shape)?;
+    let mut lead = lead_under(alloc, script, rule, budget, shape)?;
     find_among_sets(&mut lead, &none, part, last, fewer, progress)
 }
 

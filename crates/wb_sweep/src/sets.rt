@@ -12,14 +12,14 @@ ghost use Rattle.wb_meaning.specs.declared.run.Why.{Why};
 ghost use Rattle.wb_sweep.specs.SetSearch.{AreFewerFine, AreFewerFineWith, AreFine, AreFineWith};
 ghost use Rattle.wb_sweep.specs.SetSearch.{IsBadSet, IsCutAfter, IsCutWith, IsForkTo, IsFoundAfter, IsFoundWith};
 
-use crate::fork::{fork_under, result_under};
+use crate::fork::{fork_under, outcome_under};
 use crate::set_answer::{FoundSet, SetFault};
-use crate::walk::attempts_in;
 use wb_basics::memory::NoMemory;
 use wb_heap_model::heap::{Numbers, Rule};
 use wb_machine::{Heap, Machine};
 use wb_meaning::run::{Outcome, RunResult};
-use wb_runs::progress::Progress;
+use wb_runs::progress::{Progress, Silent};
+use wb_runs::run_end::is_fine;
 
 /// A copy of a set with one more number at its end.
 fn set_with(set: &Numbers, number: u32) -> Result<Numbers, NoMemory>
@@ -61,7 +61,8 @@ pub(crate) fn judge_set(
 
 /// Judges the run in which the attempts of `set` and the attempt `number` fail. Returns the run if it is bad, and `None` if it is fine. The
 /// lead is a run in which the attempts of `set` fail, and `number` is its next attempt. A copy of the lead makes the judged run. The copy
-/// takes the spare memory, and leaves its own memory as spare.
+/// takes the spare memory, and leaves its own memory as spare. If the run is bad, it is made once more from its first attempt, since the
+/// copy keeps no trace.
 fn try_last<P: Progress>(
     lead: &Machine,
     set: &Numbers,
@@ -73,7 +74,6 @@ fn try_last<P: Progress>(
     requires rule { lead.now.rule ≡ rules.Set set.now }
     requires going { lead.now.over ≡ false }
     requires well { lead.now.failed ≡ false }
-    requires lines { lead.now.keeps_rises ≡ false }
     ensures fine { IfOk result (λ found. found ≡ None → AreFineWith
         (set_run lead.now.script lead.now.budget lead.now.shape) set.now number 1) }
     ensures found { IfOk result (λ found. IfSome found (IsFoundWith
@@ -86,7 +86,15 @@ fn try_last<P: Progress>(
     let numbers = set_with(set, number)?;
     progress.begin_set(&numbers);
     let rule = rule_for(&numbers)?;
-    let run_result = result_under(lead, rule, spare)?;
+    let outcome = outcome_under(lead, rule, spare)?;
+    if let Outcome::Cut(why) = &outcome {
+        return Err(SetFault::Cut { numbers, why: *why });
+    }
+    if is_fine(&outcome) {
+        return Ok(None);
+    }
+    let same_rule = rule_for(&numbers)?;
+    let run_result = lead.run_another(same_rule)?;
     judge_set(numbers, run_result)
 }
 
@@ -105,13 +113,15 @@ fn last_under(
     requires rule { lead.now.rule ≡ rules.Set set.now }
     requires going { lead.now.over ≡ false }
     requires well { lead.now.failed ≡ false }
-    requires lines { lead.now.keeps_rises ≡ false }
     ensures { IfOk result (λ last. last
         ≡ length (set_run lead.now.script lead.now.budget lead.now.shape numbers.now).trace) }
 {
     let rule = rule_for(numbers)?;
-    let run_result = result_under(lead, rule, spare)?;
-    Ok(attempts_in(run_result.trace.as_slice()))
+    let mut fork = fork_under(lead, rule, spare)?;
+    fork.take_all_turns(&mut Silent)?;
+    let last = fork.attempts();
+    *spare = Some(fork.into_heap());
+    Ok(last)
 }
 
 /// Copies the lead, and lets the copy make the attempt `number`. The copy goes along the run in which the attempts of `numbers` fail.
@@ -127,7 +137,6 @@ fn fork_to<'a>(
     requires rule { lead.now.rule ≡ rules.Set set.now }
     requires going { lead.now.over ≡ false }
     requires well { lead.now.failed ≡ false }
-    requires lines { lead.now.keeps_rises ≡ false }
     ensures { IfOk result (IsForkTo lead.now numbers.now number) }
 {
     let rule = rule_for(numbers)?;
@@ -153,7 +162,6 @@ fn find_with<P: Progress>(
     requires rule { lead.now.rule ≡ rules.Set set.now }
     requires going { lead.now.over ≡ false }
     requires well { lead.now.failed ≡ false }
-    requires lines { lead.now.keeps_rises ≡ false }
     requires more { 1 ≤ more }
     requires fewer { AreFewerFineWith
         (set_run lead.now.script lead.now.budget lead.now.shape) set.now number more }
@@ -192,7 +200,6 @@ fn find_along<P: Progress>(
     requires first { lead.old.begun ≡ false → lead.old.steps ≡ 0 }
     requires within { lead.old.steps ≤ lead.old.budget }
     requires well { lead.old.failed ≡ false }
-    requires lines { lead.old.keeps_rises ≡ false }
     requires start { lead.old.attempts ≤ past }
     requires last { last
         ≡ length (set_run lead.old.script lead.old.budget lead.old.shape set.now).trace }
@@ -234,7 +241,6 @@ pub(crate) fn find_next<P: Progress>(
 ) -> Result<Option<FoundSet>, SetFault>
     requires number { number ≡ lead.now.attempts + 1 }
     requires rule { lead.now.rule ≡ rules.Set set.now }
-    requires lines { lead.now.keeps_rises ≡ false }
     requires more { 1 ≤ more }
     requires fewer { past < number → AreFewerFineWith
         (set_run lead.now.script lead.now.budget lead.now.shape) set.now number more }

@@ -16,6 +16,7 @@ ghost use Rattle.wb_sweep.specs.Sweeping.{IsBadAt, IsSweep, IsSweepIn};
 
 use crate::fault::SweepFault;
 use crate::found::{Found, Sweep};
+use crate::lead::lead_under;
 use crate::pairs::find_pair;
 use crate::scout::{Scout, scout_beside};
 use crate::walk::{attempts_in, find_among, judge_run};
@@ -72,7 +73,6 @@ fn try_in_order<P: Progress>(
     requires rule { lead.old.rule ≡ rule_of failures 0 }
     requires start { (lead.old.begun ≡ false) × (lead.old.attempts ≡ 0) × (lead.old.steps ≡ 0) }
     requires well { lead.old.failed ≡ false }
-    requires lines { lead.old.keeps_rises ≡ false }
     requires uncut { IsUncut failures lead.old.script lead.old.budget lead.old.shape }
     requires fine { part.from ≡ 0 →
         is_fine (runs_of failures lead.old.script lead.old.budget lead.old.shape 0) ≡ true }
@@ -127,7 +127,7 @@ fn try_numbers<P: Progress>(
         IsLeastCutIn failures part script.now budget shape at why }
     ensures shape { result ≡ Err SweepFault.BadShape → is_shape shape ≡ false }
 {
-    let mut lead = Machine::new(alloc, script, failures.at(0).rule(), budget, shape)?;
+    let mut lead = lead_under(alloc, script, failures.at(0).rule(), budget, shape)?;
     let mut scout = scout_beside(&lead, failures, steps, budget)?;
     try_in_order(&mut lead, failures, part, last, &mut scout, progress)
 }
@@ -223,10 +223,11 @@ pub(crate) fn find_least<P: Progress>(
 /// failure whose run is bad or cut. The answer holds for all failures, even for failures past that last attempt. The run under a failure
 /// goes on from the point at which the run without failure makes the first attempt that is to fail. The run under a failure is followed to
 /// its end, or until it comes to the same state as the run without failure, except for allocation numbers. At most three runs are under way
-/// at once. If the failures are pairs and no single number's run is bad or cut, pairs are tried, as `sweep_sets` tries the sets of two
-/// attempts. Pairs are in the order of their first attempts, and pairs with the same first attempt are in the order of their second
-/// attempts. The second attempt is any attempt that the run with the first failure makes after the first attempt. `Cut` names the least
-/// failure whose run is cut, if no lesser failure's run is bad. `BadShape` is returned exactly if no heap may have the shape.
+/// at once. A bad run that is found is made once more, from its first attempt, for its trace. If the failures are pairs and no single
+/// number's run is bad or cut, pairs are tried, as `sweep_sets` tries the sets of two attempts. Pairs are in the order of their first
+/// attempts, and pairs with the same first attempt are in the order of their second attempts. The second attempt is any attempt that the
+/// run with the first failure makes after the first attempt. `Cut` names the least failure whose run is cut, if no lesser failure's run is
+/// bad. `BadShape` is returned exactly if no heap may have the shape.
 ///
 /// `progress` is notified when the sweep begins, before the run under each failure that is tried, and when the sweep is over. For pairs,
 /// `progress` is notified as by `sweep_sets`.

@@ -2,6 +2,7 @@
 //! failure makes fail.
 
 ghost use Rattle.std.specs.Prelude.{◌≡◌, ◌≢◌, ◌⊎◌, ◌+◌, ◌≤◌, None, true, false, length, IfOk, IfErr, IfSome};
+ghost use Rattle.wb_meaning.specs.Run.{is_bad};
 ghost use Rattle.wb_runs.specs.Sweeps.{failing_at, is_cut_outcome, is_fine, rule_of};
 ghost use Rattle.wb_meaning.specs.declared.run.Outcome.TheVariants as outcomes;
 ghost use Rattle.wb_meaning.specs.declared.run.RunResult.{RunResult};
@@ -42,24 +43,27 @@ pub(crate) fn judge_run(at: Failing, run_result: RunResult) -> Result<Option<Fou
     }))
 }
 
-/// Judges the run of a fork as `judge_run` does. The fork is a copy of a run that is fine. So if the fork met the scout, the fork's run is
-/// fine too, unless the budget cuts it.
-fn judge_fork(at: Failing, forked: Forked) -> Result<Option<Found>, SweepFault>
-    ensures fine { IfOk result (λ found. found ≡ None → (run_result : RunResult) →
-        FineSays forked run_result → is_fine run_result ≡ true) }
-    ensures bad { IfOk result (λ found. IfSome found (λ bad. (run_result : RunResult) →
-        FineSays forked run_result → IsBadAt at run_result bad)) }
+/// Judges the run of a fork. Returns whether the run is bad, and `Cut` if the run is cut. The fork is a copy of a run that is fine. So if
+/// the fork met the scout, the fork's run is fine too, unless the budget cuts it.
+fn judge_fork(at: Failing, forked: &Forked) -> Result<bool, SweepFault>
+    ensures fine { IfOk result (λ is_judged_bad. is_judged_bad ≡ false →
+        (run_result : RunResult) → FineSays forked.now run_result → is_fine run_result ≡ true) }
+    ensures bad { IfOk result (λ is_judged_bad. is_judged_bad ≡ true →
+        (run_result : RunResult) → FineSays forked.now run_result → is_bad run_result ≡ true) }
     ensures cut { IfErr result (λ fault. (why : Why) × (fault ≡ SweepFault.Cut at why)
-        × ((run_result : RunResult) → FineSays forked run_result →
+        × ((run_result : RunResult) → FineSays forked.now run_result →
         run_result.outcome ≡ outcomes.Cut why)) }
 {
     match forked {
-        Forked::Met(Meeting::Alike) => Ok(None),
+        Forked::Met(Meeting::Alike) => Ok(false),
         Forked::Met(Meeting::PastBudget) => Err(SweepFault::Cut {
             at,
             why: Why::Budget,
         }),
-        Forked::Ran(run_result) => judge_run(at, run_result),
+        Forked::Ran(Outcome::Ended { leaks, .. }) => Ok(leaks.len() > 0),
+        Forked::Ran(Outcome::Panicked(_)) => Ok(true),
+        Forked::Ran(Outcome::NoCleanup) => Ok(false),
+        Forked::Ran(Outcome::Cut(why)) => Err(SweepFault::Cut { at, why: *why }),
     }
 }
 
@@ -76,7 +80,8 @@ pub(crate) fn attempts_in(trace: &[Attempt]) -> u32
 
 /// Judges the run in which `number`, the attempt that the lead makes next, is the first attempt to fail. Returns the run if it is bad.
 /// Returns `None` if the run is fine, if the lead's next turn makes no attempt, or if `number` is less than `from`. A fork follows the run
-/// until it meets the scout, if there is a scout. The fork takes the spare memory, and leaves its own memory as spare.
+/// until it meets the scout, if there is a scout. The fork takes the spare memory, and leaves its own memory as spare. If the run is bad, it
+/// is made once more from its first attempt, since a fork keeps no trace.
 fn try_next<P: Progress>(
     lead: &Machine,
     failures: Failures,
@@ -88,7 +93,6 @@ fn try_next<P: Progress>(
 ) -> Result<Option<Found>, SweepFault>
     requires number { number ≡ lead.now.attempts + 1 }
     requires rule { lead.now.rule ≡ rule_of failures 0 }
-    requires lines { lead.now.keeps_rises ≡ false }
     requires scout { IfSome scout.old
         (IsScout failures lead.now.script lead.now.budget lead.now.shape) }
     ensures scout { IfOk result (λ found. found ≡ None → IfSome scout.new
@@ -110,7 +114,15 @@ fn try_next<P: Progress>(
     let failing = failures.at(number);
     progress.begin_failure(failing);
     let forked = follow_beside_fine(lead, failures, number, scout, spare)?;
-    judge_fork(failing, forked)
+    let is_bad = judge_fork(failing, &forked)?;
+    if !is_bad {
+        return Ok(None);
+    }
+    let result = lead.run_another(failing.rule())?;
+    Ok(Some(Found {
+        at: failing,
+        result,
+    }))
 }
 
 /// Finds the least failure whose run is bad, of the failures that are tried as the numbers from `from` to `last`. Returns `None` if the run
@@ -129,7 +141,6 @@ pub(crate) fn find_among<P: Progress>(
     requires first { lead.old.begun ≡ false → lead.old.steps ≡ 0 }
     requires within { lead.old.steps ≤ lead.old.budget }
     requires well { lead.old.failed ≡ false }
-    requires lines { lead.old.keeps_rises ≡ false }
     requires last { last ≤ length (runs_beside failures lead.old 0).trace }
     requires scout { IfSome scout.old
         (IsScout failures lead.old.script lead.old.budget lead.old.shape) }

@@ -49,7 +49,6 @@ loop-made-preserved g c =
       within = omega (arith, after.turned.within, budget);
       first = λ e. let begun = after.turned.begun in cc;
       well = after.turned.well;
-      lines = after.same.keeps_rises ∙ before.lines;
       made = so_far;
       most = omega (arith, more, c.loop-made-test.true);
       ended = ended;

@@ -15,7 +15,6 @@ invariant-loop-made g l =
       within : l.lead.steps ≤ l.fn.lead.budget;
       first : l.lead.begun ≡ false → l.lead.steps ≡ 0;
       well : l.lead.failed ≡ false;
-      lines : l.lead.keeps_rises ≡ false;
       made : l.made ≡ l.lead.attempts;
       most : l.made ≤ l.fn.last;
       ended : l.lead.over ≡ true → l.fn.last ≤ l.made;

@@ -1,12 +1,18 @@
 -- Proof: tell_later. The lead is the run without failure.
 use Rattle.std.proofs.Common.{◌≡◌, ◌+◌, ◌-◌, ◌≤◌, ℕ, arith, min, ap, ◌∙◌, sym, subst}
 use Rattle.std.proofs.Math.Nat.{min-le_right}
+use Rattle.wb_heap_model.specs.Rules.{limit_of}
 use Rattle.wb_machine.specs.Seen.{Seen}
 use Rattle.wb_runs.specs.Parts.{last_attempt}
 use Rattle.wb_runs.specs.RunEnds.{end_of}
-use Rattle.wb_runs.specs.Sweeps.{runs_of}
+use Rattle.wb_runs.specs.Sweeps.{rule_for, runs_of}
+use Rattle.wb_runs.proofs.FailureRules.{failures-no_limit}
 use Rattle.wb_sweep.specs.AllOfAPart.{listed_numbers}
 use Rattle.wb_sweep.proofs.all_numbers.tell_later.Goals as goal
+
+-- number 0 is no limit
+pub lead_under-requires-clause-rule : goal.lead_under-requires-clause-rule
+lead_under-requires-clause-rule g c = ap limit_of (c.rule.ensures ∙ ap rule_for c.at.ensures) ∙ failures-no_limit c.args.failures 0
 
 pub tell_along-requires-clause-last : goal.tell_along-requires-clause-last
 tell_along-requires-clause-last g c =

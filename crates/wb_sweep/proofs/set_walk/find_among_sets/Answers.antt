@@ -89,7 +89,6 @@ loop-lead-preserved g c =
       within = omega (arith, after.turned.within, after.same.budget, before.budget);
       first = λ e. let begun = after.turned.begun in cc;
       well = after.turned.well;
-      lines = after.same.keeps_rises ∙ before.lines;
       fine = sets-further runs [] lead c.step.new.self (c.args.part.from - 1) (c.args.fewer + 1) before.fine after.more after.turned.made.unasked (λ asked begun.
           subst (λ n. AreFineWith runs [] (n + 1) (c.args.fewer + 1)) made
           (subst (λ (xs : List ℕ). AreFineWith runs xs number (c.args.fewer + 1)) c.requires.none

@@ -15,7 +15,6 @@ invariant-loop-lead g l =
       within : l.lead.steps ≤ l.fn.lead.budget;
       first : l.lead.begun ≡ false → l.lead.steps ≡ 0;
       well : l.lead.failed ≡ false;
-      lines : l.lead.keeps_rises ≡ false;
       fine : AreFineUpTo (set_run l.fn.lead.script l.fn.lead.budget l.fn.lead.shape) [] (l.fn.part.from - 1) l.lead.attempts (l.fn.fewer + 1);
     }
 

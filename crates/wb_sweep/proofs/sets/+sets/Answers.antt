@@ -58,7 +58,7 @@ find_with-find_along-requires g t c κs within =
     (subst (λ (xs : List ℕ). AreFewerFine (set_run lead.script lead.budget lead.shape) xs c.args.number (c.args.more - 1)) (sym c.in_ok-numbers.ensures)
     (fewer-inside (set_run lead.script lead.budget lead.shape) c.args.set.now c.args.number c.args.more several c.requires.fewer)) in
     let begun : fork.begun ≡ false → fork.steps ≡ 0 = λ e. absurd (true≢false (sym is.begun ∙ e)) in
-    (search rules, (search rules, (is.rule, (begun, (is.within, (is.well, (is.lines, (is.start, (last, (omega (arith, several), fewer))))))))))
+    (search rules, (search rules, (is.rule, (begun, (is.within, (is.well, (is.start, (last, (omega (arith, several), fewer)))))))))
 
 pub find_with-returns-clause-fine : goal.find_with-returns-clause-fine
 find_with-returns-clause-fine g t c =

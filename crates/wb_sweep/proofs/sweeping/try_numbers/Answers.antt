@@ -1,15 +1,21 @@
 -- Proof: try_numbers. The lead is the run without failure at its start.
 use Rattle.std.proofs.Common.{rules, ◌≡◌, true, Err, None, Some, IfOk, IfSome, ap, ◌∙◌, sym, subst}
+use Rattle.wb_heap_model.specs.Rules.{limit_of}
 use Rattle.wb_machine.specs.Seen.{Seen}
 use Rattle.wb_runs.specs.declared.failures.Failing.{Failing}
 use Rattle.wb_meaning.specs.declared.run.Why.{Why}
 use Rattle.wb_runs.specs.Parts.{last_attempt, IsFoundIn, IsLeastCutIn}
 use Rattle.wb_runs.specs.Sweeps.{is_fine, rule_for, rule_of, runs_of}
+use Rattle.wb_runs.proofs.FailureRules.{failures-no_limit}
 use Rattle.wb_sweep.specs.declared.fault.SweepFault.TheVariants.{Cut}
 use Rattle.wb_sweep.specs.Meetings.{IsFineRun, IsScout}
 use Rattle.wb_sweep.specs.Stretches.{AreNumbersFine}
 use Rattle.wb_sweep.proofs.AnswerLemmas.{map_some}
 use Rattle.wb_sweep.proofs.sweeping.try_numbers.Goals as goal
+
+-- number 0 is no limit
+pub lead_under-requires-clause-rule : goal.lead_under-requires-clause-rule
+lead_under-requires-clause-rule g c = ap limit_of (c.rule.ensures ∙ ap rule_for c.at.ensures) ∙ failures-no_limit c.args.failures 0
 
 pub try_in_order-requires-clause-scout : goal.try_in_order-requires-clause-scout
 try_in_order-requires-clause-scout g c =
@@ -24,7 +30,6 @@ try_in_order-requires-clause-scout g c =
       same_script = ap (λ (m : Seen). m.script) start;
       same_budget = ap (λ (m : Seen). m.budget) start;
       same_shape = ap (λ (m : Seen). m.shape) start;
-      lines = ap (λ (m : Seen). m.keeps_rises) start;
       allowed = made.2;
       run_is = subst (λ k. IfSome k (IsFineRun (runs_of failures c.args.script.now c.args.budget c.args.shape 0))) made.0 c.requires.steps;
     })) is

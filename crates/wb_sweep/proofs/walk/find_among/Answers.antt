@@ -30,7 +30,6 @@ loop-failures-preserved g c =
       within = omega (arith, after.turned.within, after.same.budget, before.budget);
       first = λ e. let begun = after.turned.begun in cc;
       well = after.turned.well;
-      lines = after.same.keeps_rises ∙ before.lines;
       fine = fine-further c.args.failures c.args.lead.now c.loop-failures.lead c.step.new.self c.args.from same before.fine after.more after.turned.made.unasked
           (λ asked begun. c.in_ok-found.ensures.fine none asked (omega (arith, begun, made)));
       scout = of-same c.args.lead.now c.loop-failures.lead same (λ (s : Script) (b : ℕ) (h : Shape). IfSome c.try_next.new.scout (IsScout c.args.failures s b h))

@@ -16,7 +16,6 @@ invariant-loop-failures g l =
       within : l.lead.steps ≤ l.fn.lead.budget;
       first : l.lead.begun ≡ false → l.lead.steps ≡ 0;
       well : l.lead.failed ≡ false;
-      lines : l.lead.keeps_rises ≡ false;
       fine : AreFineFrom (runs_beside l.fn.failures l.fn.lead) l.fn.from (l.lead.attempts + 1);
       scout : IfSome l.scout (IsScout l.fn.failures l.fn.lead.script l.fn.lead.budget l.fn.lead.shape);
     }

@@ -9,7 +9,7 @@ returns-then-needed-allowed c =
     let scout = c.args.self.now in
     let needed : c.in_ok-needed.needed ≡ scout.steps + fork.steps = search rules in
     let allowed : c.in_ok-allowed.allowed ≡ scout.budget + scout.machine.steps = search rules in
-    met-cut c.args.failures fork scout c.args.number c.requires.scout c.requires.rule c.requires.lines c.requires.met (omega (arith, c.if-needed-allowed.true, needed, allowed))
+    met-cut c.args.failures fork scout c.args.number c.requires.scout c.requires.rule c.requires.met (omega (arith, c.if-needed-allowed.true, needed, allowed))
 
 pub returns : goal.returns
 returns c =
@@ -17,5 +17,5 @@ returns c =
     let scout = c.args.self.now in
     let needed : c.in_ok-needed.needed ≡ scout.steps + fork.steps = search rules in
     let allowed : c.in_ok-allowed.allowed ≡ scout.budget + scout.machine.steps = search rules in
-    met-alike c.args.failures fork scout c.args.number c.requires.scout c.requires.rule c.requires.lines c.requires.met
+    met-alike c.args.failures fork scout c.args.number c.requires.scout c.requires.rule c.requires.met
     (omega (arith, c.if-needed-allowed.false, needed, allowed))
