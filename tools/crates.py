@@ -174,7 +174,7 @@ def run_steps(steps: list[Step], lanes: int) -> None:
 
 
 # the line of the README that names the toolchain
-NAMED = re.compile(r"Proved with `(rattle-kit-[^`]*)`")
+NAMED = re.compile(r"\b[Pp]roved with `(rattle-kit-[^`]*)`")
 
 
 @cache

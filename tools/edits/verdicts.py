@@ -174,6 +174,10 @@ def list_of(found: list[OpenSource]) -> str:
 
 
 def number_of_open() -> int:
-    """How many wrong bodies of this repository are open, by the toolchain that its README names, whichever is here."""
-    verdicts = Verdicts(ROOT, logic_in(kit_of_readme((ROOT / "README.md").read_text(encoding="utf-8"))))
+    """How many wrong bodies of this repository are open, by the toolchain that its README names, whichever is here. By no toolchain all
+    would be open, which would say nothing."""
+    named = kit_of_readme((ROOT / "README.md").read_text(encoding="utf-8"))
+    if not named:
+        raise ValueError("README.md doesn't say which toolchain the program was proved with")
+    verdicts = Verdicts(ROOT, logic_in(named))
     return sum(it.count for it in verdicts.open_in(verdicts.crates.lines))

@@ -165,10 +165,14 @@ class WhatStands(InRepository):
 
     def test_the_number_of_the_readme_is_by_the_toolchain_that_it_names(self) -> None:
         self.write_days({"high/lib": "", "low/lib": ""})
-        for said, count in {f"Its logic is proved. Proved with `{KIT}`.": 3, "Its logic is proved.": 5}.items():
-            self.put("README.md", said)
+        other = KIT.replace("logic 0", "logic 1")
+        for said, count in {f"Proved with `{KIT}`.": 3, f"The program was proved with `{KIT}`": 3, f"Proved with `{other}`.": 5}.items():
+            self.put("README.md", f"Its logic is proved. {said}")
             with patch("tools.edits.verdicts.ROOT", self.room):
                 self.assertEqual(number_of_open(), count)
+        self.put("README.md", "Its logic is proved.")
+        with patch("tools.edits.verdicts.ROOT", self.room), self.assertRaises(ValueError):
+            number_of_open()
 
     def test_an_edit_that_is_none(self) -> None:
         edits = "crates/low/wrong-bodies/twice.edits"
