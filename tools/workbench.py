@@ -299,7 +299,7 @@ def answer_unproved(why: str, crates: Crates, words: list[str]) -> int:
         say(f"{why}, so these sources are compiled without their proof, in about two to three minutes, and the next answer comes at once;")
     else:
         say(f"{why}, so these sources are compiled without their proof for this one answer, in about two to three minutes;")
-    say("./build proves and builds the program, in about 20 to 40 minutes")
+    say("./build proves and builds the program, in one to two hours")
     try:
         program = program or compiled(unproved, can_keep)
     except NoProgram as refused:
