@@ -11,8 +11,9 @@ use crate::setting::Setting;
 use wb_heap_model::heap::Rule;
 
 impl DebugHeap {
-    /// Replaces the rule for all later attempts; the script's own setting and everything else stay. Neither the old rule nor the new rule may be a limit. For each attempt made so far, both rules must agree on whether the attempt
-    /// fails. So the heap is as if it had been made under the new rule. Source: this project's profile.
+    /// Replaces the rule for all later attempts; the script's own setting and everything else stay. Neither the old rule nor the new rule
+    /// may be a limit. For each attempt made so far, both rules must agree on whether the attempt fails. So the heap is as if it had been
+    /// made under the new rule. Source: this project's profile.
     pub fn set_rule(&mut self, rule: Rule)
         requires same { SameSoFar rule self.old.rule self.old.attempts }
         ensures set { self.new ≡ record self.old { rule = rule } }

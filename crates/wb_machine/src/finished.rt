@@ -25,7 +25,9 @@ pub struct Finished {
 /// How a run ended.
 #[derive(Debug, Drop)]
 pub struct RunEnded {
+    /// The outcome, with the leaks if the run ended normally or by a leave.
     pub outcome: Outcome,
+    /// How many steps the run took.
     pub steps: u32,
 }
 

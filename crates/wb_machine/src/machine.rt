@@ -255,8 +255,8 @@ impl<'a> Machine<'a> {
         Ok(())
     }
 
-    /// Takes all turns that are left. If the machine returned `NoMemory` before, takes no turn and returns `NoMemory` again. `progress` is
-    /// notified of the steps taken.
+    /// Takes all turns that are left; none if the run is over. `progress` is notified of the steps taken. If this function returns
+    /// `NoMemory`, each later call that takes a turn returns `NoMemory` too. If the machine returned `NoMemory` before, no turn is taken.
     pub fn take_all_turns<P: StepProgress>(&mut self, progress: &mut P) -> Result<(), NoMemory>
         ensures same { IsSameRun self.old self.new }
         ensures over { OnOk result (self.new.over ≡ true) }

@@ -30,8 +30,8 @@ impl<'a> Search<'a> {
         self.whole || (self.part.from <= least && least <= self.part.to && least <= self.last)
     }
 
-    /// Puts a tried set whose run is bad or cut into `shown`, unless another set is there. `fork` is this run. It keeps no trace, so the run
-    /// is made again from its first attempt.
+    /// Puts a tried set whose run is bad or cut into `shown`, unless another set is there. `fork` is this run. It keeps no trace, so the
+    /// run is made again from its first attempt.
     fn show(&mut self, fork: &Machine, numbers: Numbers) -> Result<(), NoMemory>
         requires sound { IsSound self.old }
         requires run { IsRunUnder (ground_of self.old) numbers fork.now }

@@ -13,7 +13,8 @@ use wb_machine::{Machine, RunFault};
 use wb_tree::script::Script;
 
 /// A machine at the start of a run under a rule that is no limit. The machine keeps its rises in place of a trace, and so do its copies.
-/// Rises are few in a loop, so copying takes no longer after many attempts. Returns `BadShape` only if no heap may have the shape.
+/// In a loop that frees what it takes, rises are few, so copying takes no longer after many attempts. Returns `BadShape` only if no heap
+/// may have the shape.
 pub(crate) fn lead_under<'a>(
     alloc: Global,
     script: &'a Script,

@@ -223,7 +223,7 @@ pub(crate) fn find_least<P: Progress>(
 /// failure whose run is bad or cut. The answer holds for all failures, even for failures past that last attempt. The run under a failure
 /// goes on from the point at which the run without failure makes the first attempt that is to fail. The run under a failure is followed to
 /// its end, or until it comes to the same state as the run without failure, except for allocation numbers. At most three runs are under way
-/// at once. A bad run that is found is made once more, from its first attempt, for its trace. If the failures are pairs and no single
+/// at once. A bad run under a failure is made once more, from its first attempt, for its trace. If the failures are pairs and no single
 /// number's run is bad or cut, pairs are tried, as `sweep_sets` tries the sets of two attempts. Pairs are in the order of their first
 /// attempts, and pairs with the same first attempt are in the order of their second attempts. The second attempt is any attempt that the
 /// run with the first failure makes after the first attempt. `Cut` names the least failure whose run is cut, if no lesser failure's run is

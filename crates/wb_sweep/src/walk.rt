@@ -80,8 +80,8 @@ pub(crate) fn attempts_in(trace: &[Attempt]) -> u32
 
 /// Judges the run in which `number`, the attempt that the lead makes next, is the first attempt to fail. Returns the run if it is bad.
 /// Returns `None` if the run is fine, if the lead's next turn makes no attempt, or if `number` is less than `from`. A fork follows the run
-/// until it meets the scout, if there is a scout. The fork takes the spare memory, and leaves its own memory as spare. If the run is bad, it
-/// is made once more from its first attempt, since a fork keeps no trace.
+/// until it meets the scout, if there is a scout. The fork takes the spare memory, and leaves its own memory as spare. If the run is bad,
+/// it is made once more from its first attempt, since a fork keeps no trace.
 fn try_next<P: Progress>(
     lead: &Machine,
     failures: Failures,
