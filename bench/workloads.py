@@ -1,10 +1,25 @@
-"""The scripts that `bench/run` measures, and what the cost of each is divided by."""
+"""The scripts that `bench/run` measures, and what the cost of each is divided by; and the plain program beside which they are measured."""
 
+import shutil
+import subprocess
 from collections.abc import Callable
 from math import comb
+from pathlib import Path
 from typing import NamedTuple
 
 from tools.common import programs
+
+PLAIN = Path(__file__).resolve().parent / "plain/main.rs"
+
+
+def build_plain(folder: Path) -> Path | None:
+    """Builds the plain program in a folder; None without a compiler."""
+    if not shutil.which("rustc"):
+        return None
+    program = folder / "plain"
+    subprocess.run(["rustc", "--edition", "2024", "-O", "-C", "codegen-units=1", "-o", program, PLAIN], check=True)
+    return program
+
 
 ARITHMETIC = """
 proc main

@@ -11,13 +11,13 @@ KIT = "rattle-kit-0 logic 0"
 LOGIC = "logic 0"
 
 
-def files_in(name: str) -> dict[str, str]:
+def files_in(repository: str) -> dict[str, str]:
     """The files of a repository that are kept together in one, by their names."""
-    text = (TOOLS / "tests" / name).read_text(encoding="utf-8")
+    text = (TOOLS / "tests/repositories.txt").read_text(encoding="utf-8").partition(f"\n==== {repository}\n")[2].partition("\n==== ")[0]
     return {name: f"{text.rstrip()}\n" for name, text in (part.split("\n", 1) for part in text.split("\n== ")[1:])}
 
 
-FILES = files_in("tiny-repository.txt")
+FILES = files_in("tiny")
 ALL = "high chunk lib twice"
 
 LIB, TWICE, CHUNK = (f"crates/low/src/{it}.rt" for it in ("lib", "twice", "chunk"))

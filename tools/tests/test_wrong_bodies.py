@@ -47,7 +47,7 @@ only=4 proved=1
 class SmallRepository(InRepository):
     """A repository of two crates, one below the other, with these tools in it."""
 
-    files = files_in("small-repository.txt")
+    files = files_in("small")
 
     def setUp(self) -> None:
         super().setUp()
