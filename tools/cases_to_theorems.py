@@ -5,8 +5,8 @@ definitions must give for it, and each case one theorem, proved by computing. Th
 files of their own, in `proofs/WorkedCases` of `wb_worked`; check that crate then. With `--compare` they are only compared with what would
 be written.
 
-A theorem that fails means that the case and the definitions differ. A word that is not known, of a script, of a report or of the
-arguments, ends this with that word and what it was read as.
+A theorem that fails means that the case and the definitions differ. Where a word of a script, a report or the arguments isn't known, this ends
+with the name of the case and what Python says of the word.
 """
 
 import argparse
@@ -21,7 +21,7 @@ from pathlib import Path
 from typing import Any, NamedTuple
 
 from tools.common import CASES, CEILING, CUT, FINE, FOUND, ROOT, TOOLS, parser_of
-from tools.terms import Reader, UnknownWord, among, apply, cut_term, end_term, listed, rises_term, run_term
+from tools.terms import Reader, apply, cut_term, end_term, listed, rises_term, run_term
 from tools.worked_cases import Case, CaseError, files_in, read
 
 TASKS = ("run", "size", "lengths", "sweep", "check")
@@ -67,11 +67,9 @@ class Accepted(NamedTuple):
         """A function of the definitions for the script, the budget and the shape."""
         return f"{what} {self.name} {self.given}"
 
-    def rest(self, at: int, word: str, of: str) -> str:
-        """What a line of the report says behind its first word, which must be this one."""
-        first, _, rest = "".join(self.report[at : at + 1]).partition(" ")
-        among((word,), first, of)
-        return rest
+    def rest(self, at: int, word: str) -> str:
+        """What a line of the report says behind its first word, which must be this one: no definition has another one's name."""
+        return self.report[at].removeprefix(f"{word} ")
 
     def is_part(self) -> bool:
         return (self.arguments.first, self.arguments.last) != (0, CEILING)
@@ -84,13 +82,12 @@ class Accepted(NamedTuple):
         """Which length is required, and what shorter heaps refuse."""
         if self.report[0].startswith("cut "):
             return [f"(run {self.name} R.Unlimited {self.given}).outcome ≡ {cut_term(self.report[0].split(' ')[2])}"]
-        required = self.rest(0, "required", "the first word of a size text")
-        return [f"{self.of('required')} ≡ {required}", f"{self.of('rises')} ≡ {rises_term(self.report)}"]
+        return [f"{self.of('required')} ≡ {self.rest(0, 'required')}", f"{self.of('rises')} ≡ {rises_term(self.report)}"]
 
     def lengths(self) -> list[str]:
         """How the runs at the first and the last length of each range end, and which run is that at the least bad length."""
         ranges = [line.split(" ") for line in self.report if line.startswith("from ")]
-        least = self.rest(len(ranges), "length", "the first word of a text of lengths")
+        least = self.rest(len(ranges), "length")
         lasts = [int(words[1]) - 1 for words in ranges[1:]] + [CEILING]
         ends = [(length, end_term(words[2:])) for words, last in zip(ranges, lasts) for length in sorted({int(words[1]), last})]
         claims = [f"{self.of('end_in')} {length} ≡ {end}" for length, end in ends]
@@ -114,10 +111,10 @@ class Accepted(NamedTuple):
             _, *numbers, why = report[0].split(" ")
             before = [] if a.all else self.found(runs, least, numbers)
             return [*single, *before, f"({found} {' '.join(numbers)}).outcome ≡ {cut_term(why)}"]
-        made = f"length ({runs} 0).trace ≡ {self.rest(0, 'attempts', 'the first word of a sweep text')}"
+        made = f"length ({runs} 0).trace ≡ {self.rest(0, 'attempts')}"
         if a.all:
             return [made, *self.all(runs)]
-        numbers = self.rest(1, tried, "the second line of this sweep's text").split(" ")
+        numbers = self.rest(1, tried).split(" ")
         run = [] if numbers == ["none"] else [f"{found} {' '.join(numbers)} ≡ {run_term(report[2:])}"]
         return [made, *single, *self.found(runs, least, numbers), *run]
 
@@ -132,8 +129,7 @@ class Accepted(NamedTuple):
 
     def all(self, runs: str) -> list[str]:
         """How the runs of all numbers end that are told, and of the least bad one that run."""
-        count = next((at for at, line in enumerate(self.report) if line.startswith("bad ")), len(self.report))
-        self.rest(count, "bad", "the line after the numbers")
+        count = [line.split(" ")[0] for line in self.report].index("bad")
         told = [line.split(" ") for line in self.report[1:count]]
         ends = listed([apply("ending", number, end_term(words)) for _, number, *words in told])
         claims = [f"unfine_in {runs} (part {self.arguments.first} {self.arguments.last}) ≡ {ends}"]
@@ -147,25 +143,19 @@ class Accepted(NamedTuple):
         return size.size() + (sweep.sweep() if sweep.report else [])
 
 
-def arguments_of(words: list[str]) -> tuple[argparse.Namespace, list[str]]:
-    parser = argparse.ArgumentParser(exit_on_error=False, add_help=False, allow_abbrev=False)
-    parser.add_argument("task")
+def arguments_of(case: Case) -> argparse.Namespace:
+    parser = argparse.ArgumentParser(case.place, add_help=False, allow_abbrev=False)
+    parser.add_argument("task", choices=TASKS)
+    parser.add_argument("file", type=Path, nargs="?")
     for name, default in NUMBERS.items():
         parser.add_argument(f"--{name}", type=int, default=default, dest={"from": "first", "to": "last"}.get(name))
     for name in FLAGS:
         parser.add_argument(f"--{name}", action="store_true")
     parser.add_argument("--set")
     # a number of `run`, and a flag of the others
-    every: dict[str, Any] = {"type": int} if words[:1] == ["run"] else {"action": "store_true"}
+    every: dict[str, Any] = {"type": int} if case.args[:1] == ["run"] else {"action": "store_true"}
     parser.add_argument("--every", **every)
-    try:
-        known, files = parser.parse_known_args(words)
-    except argparse.ArgumentError as error:
-        raise UnknownWord(" ".join(words), f"arguments: {error}") from error
-    among(TASKS, known.task, "a task")
-    for word in [*(it for it in files if it.startswith("-")), *files[1:]]:
-        raise UnknownWord(word, "an option")
-    return known, files
+    return parser.parse_intermixed_args(case.args)
 
 
 def rule_of(a: argparse.Namespace) -> str:
@@ -187,14 +177,12 @@ def accepted(case: Case, name: str) -> tuple[Accepted, str] | str:
         return "no report"
     if case.status not in (FINE, FOUND, CUT):
         return "not accepted"
-    a, files = arguments_of(case.args)
+    a = arguments_of(case)
     if a.failures is not None or a.sets:
         return "sets of failures"
     report = case.stdout.decode().removesuffix("\n").split("\n")
     if a.json:
-        held = json.loads(case.stdout)
-        among(("3" if a.task == "lengths" or a.all or a.persistent else "2",), str(held["version"]), "the version of a JSON report")
-        report = list(held["lines"])
+        report = list(json.loads(case.stdout)["lines"])
     shape = f"{a.budget} ({'shaped_moving' if a.moving else 'shaped'} {a.min} {a.step})"
     it = Accepted(f"script_{name}", shape, a, report)
     if a.task == "run" and int(report[-1].removeprefix("steps ")) > MOST_STEPS:
@@ -203,7 +191,7 @@ def accepted(case: Case, name: str) -> tuple[Accepted, str] | str:
         return f"more than {MOST_RANGES} ranges of lengths"
     if a.pairs and it.is_part():
         return "a part of the pairs"
-    return it, ((ROOT / files[0]).read_bytes() if files else case.script).decode()
+    return it, ((ROOT / a.file).read_bytes() if a.file else case.script).decode()
 
 
 def theorem(name: str, it: Accepted, text: str) -> str:
@@ -229,8 +217,8 @@ def theorems_of(cases: list[Case]) -> tuple[dict[str, dict[str, str]], Counter[s
             if any(name in some for some in theorems.values()):
                 sys.exit(f"two cases are called {name}")
             theorems.setdefault(case.group.split("/")[0], {})[name] = theorem(name, *told)
-        except UnknownWord as unknown:
-            sys.exit(f"{case.place}: {unknown}")
+        except (LookupError, ValueError) as unknown:
+            sys.exit(f"{case.place}: {unknown!r}")
     return theorems, left_out
 
 

@@ -1,20 +1,20 @@
 """Scripts and reports of worked cases as terms of antt: the tree of `wb_tree/src/script.rt` that each script spells, and the values that
 the definitions must give for its reports.
 
-Scripts are read by the small reader here, not by the workbench's own, so that the theorems speak of the definitions alone."""
+Scripts are read by the small reader here, not by the workbench's own, so that the theorems speak of the definitions alone. Where a word is
+in none of the tables, Python raises an error: no term leaves out what isn't known."""
 
 import re
-from collections.abc import Collection, Mapping
-from typing import NamedTuple, TypeVar
+from typing import NamedTuple
 
 from tools.language import line_of, lines_by_kind, words_of_roles
 
-Value = TypeVar("Value")
-
-# the first words of a run's lines, and the words in them that name a value of the definitions, which tools/shorthands.txt imports
+# the first words of a run's lines, and the values of the definitions that words in them name, which tools/shorthands.txt imports
 RUN_LINES = ("print", "note", "attempt", "ended", "left", "leaks", "leak", "panic", "nocleanup", "cut", "steps")
-PANICS, NOTES = ("USER", "ALLOC", "WORKBENCH"), ("heap", "available", "compress")
-ANSWERS, CUTS = ("granted", "simulated", "refused"), ("budget", "ceiling")
+VALUES = {
+    **{it: it.capitalize() for it in ("heap", "available", "compress", "granted", "simulated", "refused", "budget", "ceiling")},
+    **{it: f"P.{it.capitalize()}" for it in ("USER", "ALLOC", "WORKBENCH")},
+}
 
 # the statements that are one line with the operands of its kind: its word, the constructor, and what follows the operands there. The
 # others are in `Reader.statement`
@@ -40,27 +40,9 @@ OVERLOADED = {
 # lines that open a block
 BLOCKS = {"repeat": "Repeat", "trap": "Trap"}
 
-# what bodies may name before its declaration, by the word that declares it: no statement begins with such a word
-NAMED = {"class": "a class", "proc": "a procedure", "op": "an operation"}
+# the words that declare what bodies may name before: no statement begins with such a word
+ITEMS = ("class", "proc", "op")
 NUMERAL = re.compile("-?[0-9]+")
-
-
-class UnknownWord(Exception):
-    """A word that is not known, and what it was read as."""
-
-    def __init__(self, word: str, read_as: str) -> None:
-        super().__init__(f"`{word}` is not known as {read_as}")
-
-
-def among(words: Collection[str], word: str, read_as: str) -> str:
-    """The word, which is one of these."""
-    if word not in words:
-        raise UnknownWord(word, read_as)
-    return word
-
-
-def found(table: Mapping[str, Value], word: str, read_as: str) -> Value:
-    return table[among(table, word, read_as)]
 
 
 def apply(name: str, *arguments: str) -> str:
@@ -84,46 +66,39 @@ def text_term(text: str) -> str:
     return listed([str(ord(it)) for it in text])
 
 
-def named(words: Collection[str], word: str, read_as: str) -> str:
-    """The value of the definitions that a word of a report names."""
-    return among(words, word, read_as).capitalize()
-
-
 def cut_term(word: str) -> str:
-    return apply("Cut", named(CUTS, word, "why a run is cut"))
+    return apply("Cut", VALUES[word])
 
 
 def panic_term(words: list[str]) -> str:
-    return apply("P." + named(PANICS, words[0], "a panic's category"), str(int(words[1], 16 if words[0] == "ALLOC" else 10)))
+    return apply(VALUES[words[0]], str(int(words[1], 16 if words[0] == "ALLOC" else 10)))
 
 
 def outcome_term(told: dict[str, list[list[str]]]) -> str:
-    if "panic" in told:
+    if told["panic"]:
         return apply("Panicked", panic_term(told["panic"][0]))
-    if "cut" in told:
+    if told["cut"]:
         return cut_term(told["cut"][0][0])
-    if "nocleanup" in told:
+    if told["nocleanup"]:
         return "NoCleanup"
-    leaks = [apply("leak", it[0], it[2], it[4]) for it in told.get("leak", [])]
-    return apply("Ended", option(integer(int(told["left"][0][0])) if "left" in told else None), listed(leaks))
+    leaks = [apply("leak", it[0], it[2], it[4]) for it in told["leak"]]
+    return apply("Ended", option(integer(int(told["left"][0][0])) if told["left"] else None), listed(leaks))
 
 
 def run_term(lines: list[str]) -> str:
-    told: dict[str, list[list[str]]] = {key: [] for key in ("attempt", "note")}
+    told: dict[str, list[list[str]]] = {key: [] for key in RUN_LINES}
     printed: list[str] = []
     for key, _, rest in (line.partition(" ") for line in lines):
-        told.setdefault(among(RUN_LINES, key, "the first word of a run's line"), []).append(rest.split(" "))
+        told[key].append(rest.split(" "))
         printed += [text_term(rest)] if key == "print" else []
-    trace = [apply("line", it[0], it[2], it[4], named(ANSWERS, it[5], "the answer of an attempt")) for it in told["attempt"]]
-    notes = [apply(named(NOTES, it[0], "a note"), *it[1:]) for it in told["note"]]
+    trace = [apply("line", it[0], it[2], it[4], VALUES[it[5]]) for it in told["attempt"]]
+    notes = [apply(VALUES[it[0]], *it[1:]) for it in told["note"]]
     return apply("result", outcome_term(told), listed(trace), listed(printed), listed(notes), told["steps"][0][0])
 
 
 def rises_term(lines: list[str]) -> str:
     """The rises that a size text tells: each with its number and its top, where the next line begins."""
     rows = [line.split(" ") for line in lines[1:]]
-    for row in rows:
-        among(("from", "enough"), row[0], "the first word of a row of lengths")
     tops = [row[1] for row in rows[1:-1]] + [rows[-1][2]]
     return listed([apply("rise", row[3], top) for row, top in zip(rows, tops)])
 
@@ -138,8 +113,8 @@ def end_term(words: list[str]) -> str:
         case ["left", code]:
             return apply("E.Left", integer(int(code)))
         case ["cut", why]:
-            return apply("E.Cut", named(CUTS, why, "why a run is cut"))
-    return found({"nocleanup": "E.NoCleanup", "ended": "E.Plain"}, words[0], "how a run ends")
+            return apply("E.Cut", VALUES[why])
+    return {"nocleanup": "E.NoCleanup", "ended": "E.Plain"}[words[0]]
 
 
 def words_of(line: str) -> list[str]:
@@ -156,9 +131,7 @@ class Local(NamedTuple):
 
 def parameter(word: str, index: int) -> tuple[str, Local]:
     """The name and the local of a PARAM."""
-    name, mark, of = word.partition(":")
-    if not mark:
-        raise UnknownWord(word, "a parameter")
+    name, _, of = word.partition(":")
     return name, Local("int" if of == "int" else "ptr", index, None if of in ("int", "ptr") else of)
 
 
@@ -170,12 +143,11 @@ class Reader:
         # the lines still to read with their numbers, the next one last
         self.lines, self.line = lines[::-1], 0
         # the indexes of what bodies may name before its declaration, and the fields of each class with their classes
-        self.indexes: dict[str, dict[str, int]] = {sort: {} for sort in NAMED.values()}
+        self.indexes: dict[str, dict[str, int]] = {it: {} for it in ITEMS}
         self.fields: dict[str, dict[str, str | None]] = {}
         for _, (word, *rest) in lines:
-            if word in NAMED:
-                known = self.indexes[NAMED[word]]
-                known[rest[0]] = len(known)
+            if word in ITEMS:
+                self.indexes[word][rest[0]] = len(self.indexes[word])
             if word == "class":
                 self.fields[rest[0]] = {}
             elif word == "field":
@@ -188,18 +160,18 @@ class Reader:
         self.line, words = self.lines.pop()
         return words
 
-    def index(self, sort: str, name: str) -> str:
-        return str(found(self.indexes[sort], name, f"the name of {sort}"))
+    def index(self, item: str, name: str) -> str:
+        return str(self.indexes[item][name])
 
     def class_option(self, name: str | None) -> str:
         """The class of a pointer, a field or a parameter, where it has one."""
-        return option(None if name is None else self.index("a class", name))
+        return option(None if name is None else self.index("class", name))
 
     def script(self) -> str:
-        items: dict[str, list[str]] = {word: [] for word in NAMED}
+        items: dict[str, list[str]] = {it: [] for it in ITEMS}
         while self.lines:
             words, line = self.next_line(), str(self.line)
-            match among(items, words[0], "the first word of an item"):
+            match words[0]:
                 case "class":
                     term = self.class_term(words[1], line, words[2])
                 case "proc":
@@ -213,15 +185,15 @@ class Reader:
                     term = apply("operation", line, self.body({words[2]: Local("ptr", 0)}, None))
             items[words[0]].append(term)
         literals = listed(list(map(text_term, self.literals)))
-        return apply("script", *map(listed, items.values()), literals, self.index("a procedure", "main"))
+        return apply("script", *map(listed, items.values()), literals, self.index("proc", "main"))
 
     def class_term(self, name: str, line: str, extra: str) -> str:
-        bodies: dict[str, str | None] = {"construct": None, "destroy": None}
-        while (words := self.next_line())[0] != "end":
-            if among(("field", *bodies), words[0], "a line of a class") in bodies:
-                bodies[words[0]] = self.body({}, name)
+        bodies: dict[str, str] = {}
+        while (word := self.next_line()[0]) != "end":
+            if word != "field":
+                bodies[word] = self.body({}, name)
         fields = listed(list(map(self.class_option, self.fields[name].values())))
-        return apply("class_of", line, str(int(extra)), fields, *map(option, bodies.values()))
+        return apply("class_of", line, str(int(extra)), fields, *(option(bodies.get(it)) for it in ("construct", "destroy")))
 
     def body(self, given: dict[str, Local], this: str | None) -> str:
         """A body up to its `end`, with its parameters and the class of `self`."""
@@ -232,14 +204,11 @@ class Reader:
         return apply("body", listed(begun), listed(self.block()[0]))
 
     def declaration(self, sort: str, name: str, *more: str) -> str:
-        most = sort in ("ptr", "buf")
-        if len(more) > most:
-            raise UnknownWord(more[most], f"a word of `{sort}`")
         of = more[0] if sort == "ptr" and more else None
         self.locals[name] = Local(sort, len(self.locals), of)
         if sort == "ptr":
             return apply("OfPointer", self.class_option(of))
-        return apply("OfBuffer", str(int(more[0]))) if sort == "buf" else {"int": "OfNumber"}.get(sort, "OfView")
+        return apply("OfBuffer", str(int(more[0]))) if sort == "buf" else {"int": "OfNumber", "view": "OfView"}[sort]
 
     def block(self) -> tuple[list[str], str]:
         """Statements with their lines up to an `end` or `else`, and which of these it was."""
@@ -252,36 +221,32 @@ class Reader:
     def statement(self, key: str, operands: list[str]) -> str:
         if key in STATEMENTS:
             name, *rest = STATEMENTS[key]
-            return apply(name, *self.operands(key, line_of(key, "Plain").places, operands), *rest)
+            return apply(name, *self.operands(line_of(key, "Plain").places, operands), *rest)
         if key in OVERLOADED:
-            name, places = OVERLOADED[key][self.sort_of("".join(operands[:1])) != "int"]
-            return apply(name, *self.operands(key, places, operands))
+            name, places = OVERLOADED[key][self.sort_of(operands[0]) != "int"]
+            return apply(name, *self.operands(places, operands))
         if key in ("call", "callto"):
             results, rest = ([self.local(operands[0])], operands[1:]) if key == "callto" else ([], operands)
             arguments = listed([self.operand("Argument", it) for it in rest[1:]])
-            return apply("CallTo" if results else "Call", *results, self.index("a procedure", rest[0]), arguments)
+            return apply("CallTo" if results else "Call", *results, self.index("proc", rest[0]), arguments)
         if key == "return":
-            return apply("ReturnPointer", *self.operands(key, ("Pointer",), operands)) if operands else "Return"
+            return apply("ReturnPointer", *self.operands(("Pointer",), operands)) if operands else "Return"
         if key == "if":
             return self.choice(operands)
-        return apply(found(BLOCKS, key, "a statement"), *self.operands(key, line_of(key, "Loop").places, operands), listed(self.block()[0]))
+        return apply(BLOCKS[key], *self.operands(line_of(key, "Loop").places, operands), listed(self.block()[0]))
 
     def choice(self, operands: list[str]) -> str:
         """`if` with its condition and both parts."""
-        name, kind = found(CONDITIONS, operands[0], "a condition")
-        condition = apply(name, *self.operands(operands[0], lines_by_kind()[kind].places, operands[1:]))
+        name, kind = CONDITIONS[operands[0]]
+        condition = apply(name, *self.operands(lines_by_kind()[kind].places, operands[1:]))
         first, closed_by = self.block()
         if closed_by == "end":
             return apply("If", condition, listed(first))
         return apply("IfElse", condition, listed(first), listed(self.block()[0]))
 
-    def operands(self, key: str, places: tuple[str, ...], words: list[str]) -> list[str]:
+    def operands(self, places: tuple[str, ...], words: list[str]) -> list[str]:
         """All operands of a line, by their places in the tables of `wb_lines`."""
-        if len(words) > len(places):
-            raise UnknownWord(words[len(places)], f"an operand of `{key}`")
-        if len(words) < len(places):
-            raise UnknownWord(key, f"a line with {len(words)} operands")
-        return list(map(self.operand, places, words))
+        return [self.operand(place, word) for place, word in zip(places, words, strict=True)]
 
     def operand(self, place: str, word: str) -> str:
         match place:
@@ -301,13 +266,10 @@ class Reader:
             case "Argument":
                 is_number = self.sort_of(word) == "int"
                 return apply("Given", self.operand("Value", word)) if is_number else apply("Passed", self.pointer(word))
-        return self.index(found({"Class": "a class", "Operation": "an operation"}, place, "the place of an operand"), word)
-
-    def local_named(self, word: str) -> Local:
-        return found(self.locals, word, "a local or an operand")
+        return self.index({"Class": "class", "Operation": "op"}[place], word)
 
     def local(self, word: str) -> str:
-        return str(self.local_named(word).index)
+        return str(self.locals[word].index)
 
     def sort_of(self, word: str) -> str:
         """What a word stands for: `ptr`, `int`, `buf`, `view` or `literal`."""
@@ -315,13 +277,12 @@ class Reader:
             return "literal"
         if NUMERAL.fullmatch(word):
             return "int"
-        return "ptr" if "." in word or word == "self" else self.local_named(word).sort
+        return "ptr" if "." in word or word == "self" else self.locals[word].sort
 
     def pointer(self, word: str) -> str:
         base, mark, name = word.partition(".")
         holder = "H.This" if base == "self" else apply("H.Local", self.local(base))
         if not mark:
             return apply("Held", holder)
-        of = (self.this if base == "self" else self.local_named(base).class_name) or ""
-        index, fields = self.index("a class", of), list(self.fields.get(of, {}))
-        return apply("Field", holder, index, str(fields.index(among(fields, name, "a field of its class"))))
+        of = (self.this if base == "self" else self.locals[base].class_name) or ""
+        return apply("Field", holder, self.index("class", of), str(list(self.fields[of]).index(name)))
