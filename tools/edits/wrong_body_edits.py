@@ -15,14 +15,13 @@ from tools.crates import FUNCTION_HEAD
 WRONG_BODIES, MUST_FAIL = "wrong-bodies", "must-fail"
 ENDINGS = {WRONG_BODIES: ".edits", MUST_FAIL: ".edit"}
 
-# the lines above the edits of a source, and above each edit
+# the line above the edits of a source; a pair of texts, perhaps below the file that it is of; and an edit: its name, functions and pairs
 SOURCE = re.compile(r"^=== (src/\S+)$", re.MULTILINE)
-NAME = re.compile(r"^\[([a-z0-9]+(?:-[a-z0-9]+)*)\]$", re.MULTILINE)
+PAIR = r"(?:file: *({0}\S+) *\n+)?old: ?({0}.*)\nnew: ?({0}.*)\n+"
+CHANGE = re.compile(PAIR.format(""))
+EDIT = re.compile(rf"^\[([a-z0-9]+(?:-[a-z0-9]+)*)\]\nfunction: (.*)\n+((?:{PAIR.format('?:')})+)", re.MULTILINE)
 # how a function begins, with its name
 HEAD = re.compile(rf"{FUNCTION_HEAD}(\w+)")
-FUNCTIONS = "function: "
-# a pair of texts, perhaps below the file that it is of
-CHANGE = re.compile(r"^(?:file: *(\S+) *\n+)?old: ?(.*)\nnew: ?(.*)\n+", re.MULTILINE)
 EVERY_CLAUSE = "every clause of "
 
 
@@ -76,37 +75,27 @@ def written_edits(crate: Path, folders: list[str]) -> list[WrittenEdit]:
 
 
 def edits_in(folder: Path) -> Iterator[WrittenEdit]:
-    """The edits of a folder; a file that holds none has a fault by its own name."""
+    """The edits of a folder; a file that holds none, or something else too, has a fault by its own name."""
     for path in sorted(it for it in folder.rglob("*") if not it.is_dir()):
-        place, ending = path.relative_to(folder).as_posix(), ENDINGS[folder.name]
-        text = path.read_text(encoding="utf-8", errors="replace")
-        if path.suffix != ending:
-            yield WrittenEdit(place, "", fault=f"its name doesn't end in {ending}")
-        elif folder.name == MUST_FAIL:
-            yield written_edit(path.stem, text, "")
-        else:
-            above, *parts = SOURCE.split(text)
-            if above.strip() or not parts:
-                yield WrittenEdit(place, "", fault="it doesn't begin with a source, as in === src/lib.rt")
-            for source, part in zip(parts[::2], parts[1::2], strict=True):
-                above, *edits = NAME.split(part)
-                if above.strip() or not edits:
-                    yield WrittenEdit(place, "", fault=f"below {source} it doesn't begin with a name in brackets")
-                yield from (written_edit(name, it, source) for name, it in zip(edits[::2], edits[1::2], strict=True))
+        text, other, found = path.read_text(encoding="utf-8", errors="replace") + "\n", "", list[WrittenEdit]()
+        # a file of its own has the name of its edit, and names its source itself
+        above, *parts = SOURCE.split(f"[{path.stem}]\n{text}" if folder.name == MUST_FAIL else text)
+        for source, part in zip(["", *parts[::2]], [above, *parts[1::2]], strict=True):
+            found += [WrittenEdit(name, functions, tuple(changes_in(pairs, source))) for name, functions, pairs in EDIT.findall(part)]
+            other += EDIT.sub("", part).strip()
+        yield from found
+        fault = f"what stands there isn't understood: {other.splitlines()[0]}" if other else "" if found else "it holds no edit"
+        if path.suffix != ENDINGS[folder.name]:
+            fault = f"its name doesn't end in {ENDINGS[folder.name]}"
+        if fault:
+            yield WrittenEdit(path.relative_to(folder).as_posix(), "", fault=fault)
 
 
-def written_edit(name: str, text: str, source: str) -> WrittenEdit:
-    """The edit of that name which this text says, of that source where it names no other."""
-    functions, _, lines = (text.strip("\n") + "\n").partition("\n")
-    changes: list[tuple[str, str, str]] = []
-    for file, old, new in CHANGE.findall(lines):
+def changes_in(pairs: str, source: str) -> Iterator[tuple[str, str, str]]:
+    """The changes of an edit, of that source up to where it names another."""
+    for file, old, new in CHANGE.findall(pairs):
         source = file or source
-        changes.append((source, old, new))
-    if not functions.startswith(FUNCTIONS):
-        return WrittenEdit(name, functions, fault="its first line isn't 'function: PATH', or several paths with commas between them")
-    if other := CHANGE.sub("", lines).strip():
-        return WrittenEdit(name, functions, fault=f"it has a line that isn't understood where it stands: {other.splitlines()[0]}")
-    return WrittenEdit(name, functions.removeprefix(FUNCTIONS), tuple(changes))
+        yield source, old, new
 
 
 def read_edits(crate: Path, folders: list[str]) -> tuple[list[Edit], dict[str, str]]:

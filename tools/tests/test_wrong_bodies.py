@@ -272,36 +272,34 @@ HEAD = "[even]\nfunction: low::narrow::length\n"
 EVEN = f"{HEAD}old: 5\nnew: 6\n"
 MUST = "function: low::narrow::length\nfile: src/narrow.rt\nold: 5\nnew: 6\n"
 TWICE = "another edit of the crate has its name"
-NO_SOURCE = "it doesn't begin with a source, as in === src/lib.rt"
-NO_NAME = "below src/narrow.rt it doesn't begin with a name in brackets"
-NOT_UNDERSTOOD = "it has a line that isn't understood where it stands: "
+NOT_UNDERSTOOD = "what stands there isn't understood: "
 
-# files of edits beside the two, and which of their edits is none, and why
+# files of edits beside the two, and which of their edits is none, or which file holds another thing, and why
 BAD = (
     ("all.edits", NARROW + EVEN + EVEN, "even", TWICE),
     ("all.edits", NARROW + EVEN.replace("even", "longer"), "longer", TWICE),
     ("../must-fail/longer.edit", MUST, "longer", TWICE),
-    ("even.edit", MUST, "even.edit", "its name doesn't end in .edits"),
-    ("all.edits", "", "all.edits", NO_SOURCE),
-    ("all.edits", EVEN, "all.edits", NO_SOURCE),
-    ("all.edits", f"old: 5\n{NARROW}{EVEN}", "all.edits", NO_SOURCE),
-    ("all.edits", NARROW, "all.edits", NO_NAME),
-    ("all.edits", NARROW + MUST, "all.edits", NO_NAME),
-    ("all.edits", f"{NARROW}{EVEN}\n{NARROW}", "all.edits", NO_NAME),
+    ("../must-fail/even.edits", MUST, "even.edits", "its name doesn't end in .edit"),
+    ("even.edit", NARROW + EVEN, "even.edit", "its name doesn't end in .edits"),
+    *(("all.edits", text, "all.edits", "it holds no edit") for text in ("", NARROW)),
+    ("all.edits", EVEN, "even", "there is no file  below src/"),
     ("all.edits", f"=== src/other.rt\n{EVEN}", "even", "there is no file src/other.rt below src/"),
+    ("all.edits", f"old: 5\n{NARROW}{EVEN}", "all.edits", f"{NOT_UNDERSTOOD}old: 5"),
+    ("all.edits", f"{NARROW}{EVEN}file: src/narrow.rt\n", "all.edits", f"{NOT_UNDERSTOOD}file: src/narrow.rt"),
+    ("all.edits", NARROW + MUST, "all.edits", f"{NOT_UNDERSTOOD}function: low::narrow::length"),
+    ("../must-fail/even.edit", MUST.partition("\n")[2], "even.edit", f"{NOT_UNDERSTOOD}[even]"),
     *(
-        ("all.edits", f"{NARROW}{HEAD}{lines}\n", "even", NOT_UNDERSTOOD)
+        ("all.edits", f"{NARROW}{HEAD}{lines}\n", "all.edits", f"{NOT_UNDERSTOOD}[even]")
         for lines in (
-            *("old: 5\nfile: src/narrow.rt\nnew: 6", "old: 5\nold: 5\nnew: 6"),
-            *("old: 5", "new: 6", "[Even]\nold: 5\nnew: 6", "function: low::x", "=== narrow.rt\nold: 5\nnew: 6"),
+            *("old: 5\nfile: src/narrow.rt\nnew: 6", "old: 5\nold: 5\nnew: 6", "file: src/narrow rt\nold: 5\nnew: 6"),
+            *("", "old: 5", "new: 6", "[Even]\nold: 5\nnew: 6", "function: low::x", "=== narrow.rt\nold: 5\nnew: 6"),
         )
     ),
-    ("all.edits", NARROW + HEAD, "even", "it changes nothing"),
     *(
         ("all.edits", f"{NARROW}{HEAD}old: {old}\nnew: 6\n", "even", f"an 'old:' text is in src/narrow.rt {count} times, and not once")
         for old, count in (("6", 0), ("u", 2))
     ),
-    ("all.edits", f"{NARROW}[even]\nold: 5\nnew: 6\n", "even", "its first line isn't 'function: PATH'"),
+    ("all.edits", f"{NARROW}{EVEN.replace('6', '5')}", "even", "it changes nothing"),
     ("all.edits", f"{NARROW}[even]\nfunction: \nold: 5\nnew: 6\n", "even", "its first line names no function"),
 )
 
