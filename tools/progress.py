@@ -1,9 +1,9 @@
 """Runs long runs and sweeps of the program, and looks at what is said of their progress on standard error.
 
 The sweeps are of single failures, rates, pairs, sets and lengths. On a terminal one line says which failure or length is being tried, and
-what is known to show nothing, or how many steps a run has taken. It appears once a run or a sweep has taken two seconds, is rewritten in place, and is wiped before the report. Elsewhere a
-line is written each minute, and with --quiet nothing. Nor is anything said of a sweep that is shorter. The scripts are made longer and
-longer until their sweeps take long enough on this machine.
+what is known to show nothing, or how many steps a run has taken. It appears once a run or a sweep has taken two seconds, is rewritten in
+place, and is wiped before the report. Elsewhere a line is written each minute, and with --quiet nothing. Nor is anything said of a sweep
+that is shorter. The scripts are made longer and longer until their sweeps take long enough on this machine.
 
 A script that is typed on a terminal is announced there, since the program would wait without a word.
 """
@@ -112,11 +112,6 @@ KINDS = [
 SLOW = Kind(["sweep"], SLOW_FAILURES, 20, 1, "attempt")
 
 
-def longer(size: int, seconds: float, wanted: float, power: int) -> int:
-    """The size of a script that takes somewhat more than is wanted, by what a run took, which may have been too short to be timed."""
-    return int(size * max(1.15, min(64.0, 1.15 * wanted / seconds) ** (1 / power)))
-
-
 def pieces_from(master: int, seconds: float, stop: Callable[[], None]) -> Iterator[bytes]:
     """What comes from a terminal until the program has closed its end, or is stopped since nothing comes for so long."""
     while select.select([master], [], [], seconds)[0]:
@@ -140,6 +135,20 @@ def show(program: Path, kind: Kind, script: bytes) -> Shown:
         given.write(script)
     pieces = [(time.monotonic() - begun, piece) for piece in pieces_from(master, LIMIT, running.kill)]
     return Shown(pieces, running.wait(LIMIT), time.monotonic() - begun)
+
+
+def long_run(program: Path, kind: Kind, seconds: float = LEAST, has_estimate: bool = False) -> tuple[bytes, Shown]:
+    """A script whose run on a terminal takes so long, and that run. Where an estimate is asked for, some line of the run has one: else most
+    of its time may be taken by what comes before or after the sweep."""
+    attempts = kind.attempts
+    while True:
+        script = kind.script(attempts)
+        shown = show(program, kind, script)
+        is_told = not has_estimate or any(kind.calls == "steps" or it["done"] for it in kind.lines(shown))
+        if shown.seconds >= seconds and (is_told or shown.seconds >= PATIENCE):
+            return script, shown
+        # somewhat more than is wanted, by what this run took, which may have been too short to be timed
+        attempts = int(attempts * max(1.15, min(64.0, 1.15 * seconds / shown.seconds) ** (1 / kind.power)))
 
 
 def losing_terminal(program: Path, kind: Kind, script: bytes) -> Answer:
@@ -199,20 +208,11 @@ def look_at_lines(checks: Trials, kind: Kind, name: str, attempts: int, shown: S
 
 def look_at(program: Path, kind: Kind) -> Trials:
     """A kind of sweep: long ones and a short one, on a terminal and elsewhere."""
-    checks, name, attempts = Trials(program), " ".join(kind.words), kind.attempts
-    while True:
-        script, begun = kind.script(attempts), time.monotonic()
-        ran = kind.run(program, script)
-        if (seconds := time.monotonic() - begun) < LEAST:
-            attempts = longer(attempts, seconds, LEAST, kind.power)
-            continue
-        with ThreadPoolExecutor() as beside:
-            lost = beside.submit(losing_terminal, program, kind, script)
-            shown, gone = show(program, kind, script), lost.result()
-        if any(kind.calls == "steps" or it["done"] for it in kind.lines(shown)) or shown.seconds >= PATIENCE:
-            break
-        # most of the time was taken by what comes before or after the sweep, or the machine has become quicker meanwhile
-        attempts += attempts // 4
+    checks, name = Trials(program), " ".join(kind.words)
+    script, shown = long_run(program, kind, has_estimate=True)
+    with ThreadPoolExecutor() as beside:
+        lost = beside.submit(losing_terminal, program, kind, script)
+        ran, gone = kind.run(program, script), lost.result()
     checks.look(f"{name}: nothing is said without a terminal", not SAID.search(ran.messages) and b"\r" not in ran.messages, ran.messages)
     told = re.search(rb'attempts"?[ :](\d+)', ran.output)
     checks.look(f"{name}: the report where the terminal goes away", gone[0] == ran.output and gone.status == ran.status, gone)
@@ -229,11 +229,9 @@ def look_at(program: Path, kind: Kind) -> Trials:
 
 def look_at_quiet(program: Path) -> Trials:
     """A long sweep that is to show no progress: a terminal shows nothing but the report."""
-    checks, attempts = Trials(program), KINDS[0].attempts
-    kind = KINDS[0]._replace(words=[*KINDS[0].words, "--quiet"])
-    while (shown := show(program, kind, kind.script(attempts))).seconds < LEAST:
-        attempts = longer(attempts, shown.seconds, LEAST, kind.power)
-    ran = kind.run(program, kind.script(attempts))
+    checks, kind = Trials(program), KINDS[0]._replace(words=[*KINDS[0].words, "--quiet"])
+    script, shown = long_run(program, kind)
+    ran = kind.run(program, script)
     checks.look("quiet: nothing but the report", shown.bytes() == (ran.output + ran.messages).replace(b"\n", b"\r\n"), shown)
     return checks
 
@@ -260,10 +258,8 @@ def look_at_minutes(program: Path) -> Trials:
 def look_at_slow_failures(program: Path) -> Trials:
     """A failure is named before its run and not after it: where the last two runs take two seconds each, the last one alone is
     named, since the one before it begins too early."""
-    checks, turns = Trials(program), SLOW.attempts
     # half of it is the last run
-    while (shown := show(program, SLOW, SLOW.script(turns))).seconds < 2 * LEAST:
-        turns = longer(turns, shown.seconds, 2 * LEAST, SLOW.power)
+    checks, (_, shown) = Trials(program), long_run(program, SLOW, 2 * LEAST)
     named = [(it["at"], it["of"]) for it in LINE.finditer(shown.bytes().decode("ascii"))]
     checks.look("a failure is named before its run", named == [("5", "5")], named)
     return checks
