@@ -4,7 +4,7 @@ import random
 import re
 import tempfile
 from collections import Counter
-from collections.abc import Callable, Iterator
+from collections.abc import Iterator
 from concurrent.futures import ProcessPoolExecutor
 from functools import partial
 from itertools import count
@@ -121,10 +121,6 @@ class Mistake(NamedTuple):
         return any(it in explanation for it in names)
 
 
-# makes a mistake in a line of a script, in the turn of its sort; some sorts take another line of it
-Maker = Callable[[list[str], int, int], Mistake | None]
-
-
 def words_of(line: str) -> list[str]:
     """The words of a line that is no comment and holds no text; none of any other line."""
     return [] if line.lstrip().startswith("#") or '"' in line else line.split()
@@ -134,70 +130,58 @@ def indented(line: str, words: list[str]) -> str:
     return line[: len(line) - len(line.lstrip())] + " ".join(words)
 
 
-def in_words(edit: Callable[[list[str], int, int], tuple[list[str], set[str]] | None]) -> Maker:
-    """Edits the words of a line, one of them above all, and says by which words that is named."""
-
-    def make(lines: list[str], at: int, turn: int) -> Mistake | None:
-        words = words_of(lines[at])
-        made = edit(words, turn % len(words), turn) if words else None
-        return Mistake([*lines[:at], indented(lines[at], made[0]), *lines[at + 1 :]], {at + 1}, made[1]) if made else None
-
-    return make
-
-
-def letter(edit: Callable[[str, int], str]) -> Maker:
-    """Edits one letter of one word, which has at least three."""
-
-    def make(words: list[str], place: int, turn: int) -> tuple[list[str], set[str]] | None:
-        old = words[place]
-        new = edit(old, turn // 3 % (len(old) - 1)) if len(old) > 2 else old
-        return ([*words[:place], new, *words[place + 1 :]], {new}) if new != old else None
-
-    return in_words(make)
-
-
 def opens(words: list[str]) -> bool:
     return bool(words) and (words[0] in OPENERS or words == ["construct"])
 
 
-def end_gone(lines: list[str], at: int, turn: int) -> Mistake | None:
-    """Leaves out one `end` of the script. The line of its block will do, too."""
-    blocks: list[tuple[int, int]] = []
-    begun: list[int] = []
-    for place, words in enumerate(map(words_of, lines)):
-        if opens(words):
-            begun.append(place)
-        elif words == ["end"]:
-            blocks.append((begun.pop(), place))
-    opener, end = blocks[turn % len(blocks)]
-    return Mistake(lines[:end] + lines[end + 1 :], {opener + 1, end + 1})
+SORTS = (
+    *("letter gone", "word twice", "end gone", "letters swapped", "last word gone"),
+    *("end too many", "letter twice", "declaration gone", "another letter"),
+)
 
 
-def end_too_many(lines: list[str], at: int, turn: int) -> Mistake | None:
+def mistake(sort: str, lines: list[str], at: int, turn: int) -> Mistake | None:
+    """A script with a mistake of a sort in a line, or in another one where the sort takes it; None where there can't be such a mistake."""
     words = words_of(lines[at])
-    if not words or opens(words) or words[0] in {"else", "field"}:
-        return None
-    return Mistake([*lines[: at + 1], indented(lines[at], ["end"]), *lines[at + 1 :]], {at + 2})
+    if sort == "end gone":
+        blocks: list[tuple[int, int]] = []
+        begun: list[int] = []
+        for place, its in enumerate(map(words_of, lines)):
+            if opens(its):
+                begun.append(place)
+            elif its == ["end"]:
+                blocks.append((begun.pop(), place))
+        opener, end = blocks[turn % len(blocks)]
+        # the line of its block will do, too
+        return Mistake(lines[:end] + lines[end + 1 :], {opener + 1, end + 1})
+    if sort == "declaration gone":
+        declared = [(place, its[1]) for place, its in enumerate(map(words_of, lines)) if its and its[0] in DECLARATIONS]
+        gone, name = declared[turn % len(declared)] if declared else (0, "")
+        return Mistake(lines[:gone] + lines[gone + 1 :], {gone + 1}, {name}) if declared else None
+    if sort == "end too many":
+        is_right = not words or opens(words) or words[0] in {"else", "field"}
+        return None if is_right else Mistake([*lines[: at + 1], indented(lines[at], ["end"]), *lines[at + 1 :]], {at + 2})
+    made, named = in_words(sort, words, turn) if words else (words, "")
+    return Mistake([*lines[:at], indented(lines[at], made), *lines[at + 1 :]], {at + 1}, {named} - {""}) if made != words else None
 
 
-def declaration_gone(lines: list[str], at: int, turn: int) -> Mistake | None:
-    declared = [(place, words[1]) for place, words in enumerate(map(words_of, lines)) if words and words[0] in DECLARATIONS]
-    gone, name = declared[turn % len(declared)] if declared else (0, "")
-    return Mistake(lines[:gone] + lines[gone + 1 :], {gone + 1}, {name}) if declared else None
-
-
-# a letter or word that is dropped, doubled, swapped or another one, and an `end` or declaration
-MAKERS: list[Maker] = [
-    letter(lambda word, at: word[:at] + word[at + 1 :]),
-    in_words(lambda words, at, turn: ([*words[: at + 1], *words[at:]], set())),
-    end_gone,
-    letter(lambda word, at: word[:at] + word[at + 1] + word[at] + word[at + 2 :]),
-    in_words(lambda words, at, turn: (words[:-1], set()) if len(words) > 1 else None),
-    end_too_many,
-    letter(lambda word, at: word[:at] + word[at] + word[at:]),
-    declaration_gone,
-    letter(lambda word, at: word[:at] + ("x" if word[at] != "x" else "y") + word[at + 1 :]),
-]
+def in_words(sort: str, words: list[str], turn: int) -> tuple[list[str], str]:
+    """The words of a line with a mistake of a sort in one of them, and the word that it makes; the same where there can't be such a one."""
+    place = turn % len(words)
+    if sort == "word twice":
+        return [*words[: place + 1], *words[place:]], ""
+    if sort == "last word gone":
+        return words[:-1] or words, ""
+    word = words[place]
+    at = turn // 3 % (len(word) - 1) if len(word) > 2 else 0
+    before, one, other, after = word[:at], word[at], word[at + 1 : at + 2], word[at + 2 :]
+    made = {
+        "letter gone": before + other + after,
+        "letters swapped": before + other + one + after,
+        "letter twice": before + one + one + other + after,
+        "another letter": before + ("x" if one != "x" else "y") + other + after,
+    }[sort]
+    return ([*words[:place], made, *words[place + 1 :]], made) if len(word) > 2 else (words, "")
 
 
 def sources() -> list[str]:
@@ -209,7 +193,7 @@ def mistakes(scripts: list[str]) -> Iterator[Mistake]:
     """Mistakes without end, each in another script than the one before, of another sort, and further on."""
     for turn in count():
         lines = scripts[turn % len(scripts)].splitlines()
-        if made := MAKERS[turn % len(MAKERS)](lines, turn * 7 % len(lines), turn // len(MAKERS)):
+        if made := mistake(SORTS[turn % len(SORTS)], lines, turn * 7 % len(lines), turn // len(SORTS)):
             yield made
 
 
