@@ -2,7 +2,7 @@
 
 Where the program isn't built, or is older than what it is made of, its sources are compiled without their proof. What is compiled is kept
 below the repository until its sources or the toolchain change; where it can't be kept, it gives one answer. Where the toolchain leaves no
-program, it runs the sources itself.
+program, it runs the sources itself, and says on standard error what it did.
 
 `rt try` compiles a program, runs it once and removes it. So it is run on a script that is a pipe, and the program is copied while it waits
 for the script."""
@@ -34,15 +34,8 @@ WRITTEN = ("--picture", "--sarif")
 # the commands that read a script
 COMMANDS = {"run", "size", "lengths", "sweep", "check"}
 
-# the program reads one byte more than the longest script has
-LONGEST_INPUT = 65_537
-
-# how the toolchain ends: how the run ended, and before that how each of its ways to run did
+# how the toolchain ends where the program that it ran gave an answer
 ENDED = re.compile(rb"run=ended status=(\d+)\b.*proved=no\n?\Z")
-CLOSING = re.compile(rb"(?:checked|interpreter|races|run)\b[:=].*")
-NO_ANSWER = re.compile(rb"(?m)^checked: no-answer: (.*)$")
-# the toolchain runs what it compiles under another name
-OTHER_NAME = re.compile(rb"^Usage: program\b")
 
 
 def handed_on(words: list[str]) -> tuple[list[str], list[str], bool]:
@@ -74,28 +67,15 @@ def whole_path(file: str) -> str:
     return file if file in ("", "-") else os.path.join(os.getcwd(), file)
 
 
-def answer_of_try(room: Path, words: list[str]) -> int | str:
-    """Has `rt try` compile the sources in a room and run them on these words, and gives the status that they end with; or why there is no
-    answer."""
+def answer_of_try(room: Path, words: list[str]) -> int:
+    """Has `rt try` compile the sources in a room and run them on these words, and gives the status that they end with, if they do."""
     words, data, is_read = handed_on(words)
-    (room / "input").write_bytes(sys.stdin.buffer.read(LONGEST_INPUT) if is_read else b"")
-    with (room / "input").open("rb") as given:
-        command = ["rt", "try", *data, "--", *words]
-        ran = subprocess.run(command, cwd=room / "crates" / PROGRAM_CRATE, stdin=given, capture_output=True)
+    command = ["rt", "try", *data, "--", *words]
+    script = sys.stdin.buffer.read() if is_read else b""
+    ran = subprocess.run(command, cwd=room / "crates" / PROGRAM_CRATE, input=script, stderr=subprocess.PIPE)
+    sys.stderr.buffer.write(ran.stderr)
     ended = ENDED.search(ran.stderr)
-    if not ended:
-        found = NO_ANSWER.search(ran.stderr)
-        said = found[1] if found else b"; ".join(ran.stderr.splitlines()[-3:]) or b"nothing was said"
-        return said.decode(errors="replace")
-    sys.stdout.buffer.write(ran.stdout)
-    sys.stdout.flush()
-    # without the toolchain's own lines at the end, and by the program's own name
-    lines = ran.stderr.splitlines(keepends=True)
-    while lines and CLOSING.match(lines[-1]):
-        lines.pop()
-    sys.stderr.buffer.write(b"".join(OTHER_NAME.sub(b"Usage: " + NAME.encode(), it) for it in lines))
-    sys.stderr.flush()
-    return int(ended[1])
+    return int(ended[1]) if ended else NOT_BUILT
 
 
 # where the programs are kept, below the repository, and how many: those that were used last
@@ -303,13 +283,10 @@ def answer_unproved(why: str, crates: Crates, words: list[str]) -> int:
     try:
         program = program or compiled(unproved, can_keep)
     except NoProgram as refused:
-        answer: int | str = str(refused)
         if refused.ran:
             with unproved.room() as room:
-                answer = answer_of_try(room, words)
-        if isinstance(answer, int):
-            return answer
-        say(f"this way there is no answer: {answer}")
+                return answer_of_try(room, words)
+        say(f"this way there is no answer: {refused}")
         return NOT_BUILT
     become([*unproved.words(program), *words], environment())
 
