@@ -20,9 +20,7 @@ It needs a C compiler (`cc`), which builds tools/failing_allocation.c.
 
 import os
 import re
-import shutil
 import subprocess
-import sys
 import tempfile
 from bisect import bisect_left
 from collections.abc import Callable, Iterable
@@ -223,8 +221,6 @@ def main(words: list[str]) -> int:
     given = parser.parse_args(words)
     if given.same and given.scripts:
         parser.error("either scripts or --same")
-    if not shutil.which("cc"):
-        sys.exit("failing allocations can't be tried: there is no C compiler `cc` on the path")
     program = CALLS if given.same and given.program == PROGRAM else given.program
     scripts, tally = given.scripts or [*examples(), *map(Path, TRIED)], Tally()
     with tempfile.TemporaryDirectory() as folder, ThreadPoolExecutor(processors(RUN_MEMORY)) as pool:

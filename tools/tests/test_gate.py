@@ -7,10 +7,10 @@ import re
 import sys
 from argparse import Namespace
 from types import ModuleType
-from unittest.mock import DEFAULT, patch
+from unittest.mock import patch
 
 from tools import gate as gate_tools
-from tools.common import ROOT, TOOLS, Tally
+from tools.common import ROOT, Tally
 from tools.comparisons.compare import KINDS
 from tools.crates import Crates
 from tools.door import COMMANDS, said_by
@@ -77,15 +77,6 @@ class OfTheGate(InRoom):
             checked = self.gate.check("tests", [sys.executable, "-c", f"print({said!r})"], unfit=self.gate.UNTRIED)
             self.assertEqual(checked, Tally(*counts))
 
-    def test_each_tool_is_a_command(self) -> None:
-        with patch.multiple(self.gate, tally=DEFAULT, check=DEFAULT) as ran:
-            for it in ran.values():
-                it.return_value = Tally(1, 0)
-            counted = [self.gate.tools(), self.gate.pages()]
-        words = [*(it.args[0] for it in ran["tally"].call_args_list), *(it.args[1] for it in ran["check"].call_args_list)]
-        self.assertEqual(sum(it.passed for it in counted), len(words))
-        self.assertEqual([it[3] for it in words if it[2] != TOOLS / "dev" or it[3] not in COMMANDS], ["discover"])
-
     def test_each_tool_that_runs_the_program_is_run_once(self) -> None:
         def pass_once(runs: ToolRuns, tool: ToolRun, jobs: int) -> None:
             runs.outcomes.append(Outcome(tool.name(), Tally(1, 0), 0.0, 0.0))
@@ -126,16 +117,6 @@ class OfTheGate(InRoom):
             self.assertEqual(self.gate.run_parts(parts), total)
             self.assertEqual("nothing else was tried" in self.said.getvalue(), total == Tally(1, 1))
             self.assertEqual(len(second), int(total == Tally(1, 1)))
-
-    def test_no_compiler(self) -> None:
-        runs, tools = ToolRuns(), [it for it in self.gate.RUNS if it.words[0] == "failing-allocations"]
-        with patch.dict(os.environ, PATH=str(self.room)):
-            runs.run_all(tools, 1)
-            said = said_by("failing-allocations", "--same", "--program", "no-program")
-        # of the program on scripts, and of the one that makes calls once more
-        self.assertEqual([it.tally for it in runs.outcomes], [Tally(0, 1), Tally(0, 1)])
-        self.assertEqual(said.status, 1)
-        self.assertIn("no C compiler", said.messages)
 
     def run_all(self, *tools: ToolRun, lanes: int = 2) -> tuple[str, dict[str, Tally]]:
         """What is printed where these are run, and what each counts as."""
