@@ -293,26 +293,12 @@ def answer_unproved(why: str, crates: Crates, words: list[str]) -> int:
 
 def compiled(unproved: Unproved, can_keep: bool) -> Path:
     """The program as it is compiled now."""
-    with interruptible():
-        try:
-            if can_keep:
-                return unproved.keep()
-        except OSError as fault:
-            say(f"what was compiled can't be kept: {fault}")
-        return unproved.once()
-
-
-@contextmanager
-def interruptible() -> Iterator[None]:
-    """Lets an interrupt remove what was begun, before it ends this process as it would end the program."""
-    signal.signal(signal.SIGINT, signal.default_int_handler)
     try:
-        yield
-    except KeyboardInterrupt:
-        signal.signal(signal.SIGINT, signal.SIG_DFL)
-        signal.raise_signal(signal.SIGINT)
-    finally:
-        signal.signal(signal.SIGINT, signal.SIG_DFL)
+        if can_keep:
+            return unproved.keep()
+    except OSError as fault:
+        say(f"what was compiled can't be kept: {fault}")
+    return unproved.once()
 
 
 def become(words: list[str], environment: dict[str, str], file: str = "") -> NoReturn:
@@ -324,10 +310,14 @@ def become(words: list[str], environment: dict[str, str], file: str = "") -> NoR
 
 
 def main(words: list[str]) -> int:
-    # as the program itself would end
-    signal.signal(signal.SIGINT, signal.SIG_DFL)
     crates = Crates()
-    if why := why_not_built(crates):
-        return answer_unproved(why, crates, words)
-    # the name by which it calls itself in its help
-    become([NAME, *words], dict(os.environ), str(PROGRAM))
+    try:
+        if why := why_not_built(crates):
+            return answer_unproved(why, crates, words)
+        # the name by which it calls itself in its help
+        become([NAME, *words], dict(os.environ), str(PROGRAM))
+    except KeyboardInterrupt:
+        # what was begun is removed by now, and this ends as the program itself would
+        signal.signal(signal.SIGINT, signal.SIG_DFL)
+        signal.raise_signal(signal.SIGINT)
+        raise
