@@ -17,6 +17,7 @@ from threading import Thread
 from typing import Any
 
 from tools.common import COMMAND_LINE_FAULT, FOUND, READ_OR_WRITE_FAULT, REFUSED, NoAnswer, Trials, Word, program_parser
+from tools.run_cases import ways_to_lose
 
 SCRIPT = b"proc main\nptr a\nalloc a 16\nend\n"
 ATTEMPTS = b"attempt 1 length 144 place 0 granted\nattempt 2 length 32 place 144 granted\n"
@@ -105,16 +106,12 @@ def take_output(runs: Runs, missing: Path) -> None:
     which fault is named: the first of what was read and written."""
     of_missing = f"workbench: {missing}: no such file\n".encode(), READ_OR_WRITE_FAULT
     of_full = b"workbench: standard output: no space is left on the device\n", READ_OR_WRITE_FAULT
-    reader, writer = os.pipe()
-    os.close(reader)
-    with open("/dev/full", "wb") as full, open(writer, "wb") as unread:
+    for way, streams in ways_to_lose("stdout"):
         for words in ("run", "run --json", "lengths", "lengths --json"):
-            asked = words.split()
-            runs.make(f"closed standard output {words}", UNWRITTEN, *asked, stdout=None, preexec_fn=lambda: os.close(1))
-            runs.make(f"a full device {words}", UNWRITTEN, *asked, stdout=full)
-            for restore in (True, False):
-                what = f"a pipe without a reader {words}, with SIGPIPE {restore}"
-                runs.make(what, UNWRITTEN, *asked, stdout=unread, restore_signals=restore)
+            for restore in (True, False) if way == "unread" else (True,):
+                what = f"{words} with standard output {way}, and SIGPIPE {restore}"
+                runs.make(what, UNWRITTEN, *words.split(), restore_signals=restore, **streams)
+    with open("/dev/full", "wb") as full:
         runs.make("no such file, named", of_missing, "run", missing, of_messages=True, stdout=subprocess.DEVNULL)
         runs.make("a full device, named", of_full, "run", of_messages=True, stdout=full)
         runs.make("no such file and a full device", of_missing, "run", missing, of_messages=True, stdout=full)

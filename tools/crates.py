@@ -19,6 +19,7 @@ from contextlib import contextmanager
 from dataclasses import dataclass, field
 from functools import cache
 from importlib import import_module
+from itertools import chain
 from pathlib import Path
 from typing import IO, Any
 
@@ -68,18 +69,13 @@ class Crates:
             if (source := self.folder(crate) / part).is_dir():
                 shutil.copytree(source, target / part, dirs_exist_ok=True)
 
-    def newer_than(self, time: float) -> Iterator[Path]:
-        """What the program is made of and was changed after that time: files, and folders, which show what was removed."""
-        yield from (it for it in [self.root / "crates.txt"] if it.stat().st_mtime > time)
-        for crate in [*self.below(PROGRAM_CRATE), PROGRAM_CRATE]:
-            for part in PARTS:
-                for folder, _, files in os.walk(self.folder(crate) / part):
-                    paths = (Path(folder, it) for it in [*sorted(files), "."])
-                    yield from (it for it in paths if it.stat().st_mtime > time)
-
     def why_old(self) -> str:
-        """Why the program of ./build gives old answers; nothing where it is newer than its sources."""
-        newer = next(self.newer_than(PROGRAM.stat().st_mtime), None)
+        """Why the program of ./build gives old answers; nothing where it is newer than its sources: files, and folders, which show what was
+        removed."""
+        parts = [self.folder(crate) / part for crate in [*self.below(PROGRAM_CRATE), PROGRAM_CRATE] for part in PARTS]
+        inside = (Path(folder, it) for part in parts for folder, _, files in os.walk(part) for it in [*sorted(files), "."])
+        built = PROGRAM.stat().st_mtime
+        newer = next((it for it in chain([self.root / "crates.txt"], inside) if it.stat().st_mtime > built), None)
         return f"the program is older than its sources: {newer.relative_to(self.root)} is newer" if newer else ""
 
 

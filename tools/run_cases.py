@@ -206,14 +206,15 @@ def main(words: list[str]) -> int:
     return tally.end()
 
 
-def ways_to_lose() -> Iterator[tuple[str, dict[str, Any]]]:
-    """Each way in which standard error may fail, by its name."""
-    yield "closed", {"stderr": None, "preexec_fn": lambda: os.close(2)}
+def ways_to_lose(stream: str) -> Iterator[tuple[str, dict[str, Any]]]:
+    """Each way in which standard output or standard error may fail, by its name: `stdout` or `stderr`."""
+    number = {"stdout": 1, "stderr": 2}[stream]
+    yield "closed", {stream: None, "preexec_fn": lambda: os.close(number)}
     with open("/dev/full", "wb") as full:
-        yield "full", {"stderr": full}
+        yield "full", {stream: full}
     read_end, write_end = os.pipe()
     os.close(read_end)
-    yield "unread", {"stderr": write_end}
+    yield "unread", {stream: write_end}
     os.close(write_end)
 
 
@@ -226,7 +227,7 @@ def lose_messages(words: list[str]) -> int:
     parser.add_argument("groups", nargs="*", metavar="GROUP", default=[""])
     given, tally = parser.parse_args(words), Tally()
     cases, failed = [case for group in given.groups for case in cases_of(group) if case.stderr is not None], set()
-    for way, streams in ways_to_lose():
+    for way, streams in ways_to_lose("stderr"):
         for case in cases:
             _, fault = tried(given.program, case.args, case.script, partial(fault_of, replace(case, stderr=None)), **streams)
             if fault is not None:
