@@ -14,7 +14,6 @@ from collections.abc import Callable, Iterator
 from dataclasses import replace
 from difflib import unified_diff
 from functools import partial
-from itertools import islice
 from pathlib import Path
 from typing import Any, NamedTuple
 
@@ -124,17 +123,13 @@ def with_answer(case: Case, answer: Answer) -> Case:
 
 
 def fault_of(case: Case, answer: Answer) -> str | None:
+    """The lines by which the case that an answer makes differs from the other, as they stand in their files; not all if they are very many."""
     answered = with_answer(case, answer)
-    return None if answered == case else "\n".join(["another answer:", *difference(case, answered)])
-
-
-def difference(case: Case, other: Case) -> Iterator[str]:
-    """The lines by which two cases differ, as they stand in their files; not all if they are very many."""
-    old, new = (Group("", Path()).lines_of(it) for it in (case, other))
-    lines = unified_diff(old, new, "as the case says", "as the program answers", lineterm="")
-    yield from islice(lines, MOST_LINES)
-    if rest := sum(1 for _ in lines):
-        yield f"and {rest} further lines"
+    if answered == case:
+        return None
+    old, new = (Group("", Path()).lines_of(it) for it in (case, answered))
+    lines = list(unified_diff(old, new, "as the case says", "as the program answers", lineterm=""))
+    return "\n".join(["another answer:", *lines[:MOST_LINES], *[".."] * (len(lines) > MOST_LINES)])
 
 
 class Chosen(NamedTuple):

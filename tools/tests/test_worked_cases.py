@@ -214,8 +214,7 @@ class OfCases(InRoom):
         self.assertEqual(self.said(), (1, f"some/one.run: another answer:{DIFFERENCE}0 passed, 1 failed\n"))
         self.assertEqual(self.held(), [WRONG])
         self.put_cases(replace(RIGHT, stdout=b"leak\n" * 200 + b"ended\nleaks 1\nsteps 4\n"))
-        lines = self.said()[1].splitlines()
-        self.assertEqual((lines[-2:], len(lines)), (["and 107 further lines", "0 passed, 1 failed"], 103))
+        self.assertEqual(self.said()[1].splitlines()[101:], ["..", "0 passed, 1 failed"])
 
     def test_each_part_of_an_answer(self) -> None:
         for wrong, line in WRONG_PARTS:
