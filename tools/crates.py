@@ -31,9 +31,6 @@ PARTS = ("src", "specs", "proofs")
 # the exit status of ./workbench and ./build where there is no program to answer
 NOT_BUILT = 70
 
-# how a function begins up to its name, by the layout that `rt fmt` gives; its group is what it is indented by
-FUNCTION_HEAD = r"( *)(?:pub(?:\([^)]*\))? )?(?:const |unsafe )*fn "
-
 # what a process of the prover takes at most, and a tool with the program that it runs, in bytes
 MEMORY, RUN_MEMORY = 3 << 30, 512 << 20
 

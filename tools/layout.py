@@ -40,7 +40,7 @@ def bodies(crates: Crates) -> Iterator[str]:
 def makers(text: str) -> list[str]:
     """The functions of a file whose bodies make such an error, in the order of their names; behind a name how often, if more than once."""
     lines, found = text.splitlines(keepends=True), Counter[str]()
-    for name, _, body in functions_in(lines):
+    for name, body in functions_in(lines):
         found[name] += len(VALUE.findall(NO_VALUE.sub("", "".join(lines[body.start : body.stop]))))
     return sorted(f"{name} {count}" if count > 1 else name for name, count in found.items() if count)
 

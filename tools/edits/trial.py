@@ -1,11 +1,5 @@
 """Tries wrong bodies in batches, by checks of copies of a crate within a time: reads what the checker says of each function, says what came
-of each wrong body, and writes the line of each source all of whose wrong bodies were disproved.
-
-A function with several wrong bodies gets a twin for each but the first, so that one check judges them all. A twin is the whole function
-with a wrong body, under a name of its own, right below the function. It keeps the contract, and nothing calls it. Where the function has
-proof files, the twin has the same under its name. That says as much of the wrong body as the function's own files do, since the name of the
-function stands in them only where they import what is generated for it, and in no file beside them: where that isn't so, there is no twin.
-"""
+of each wrong body, and writes the line of each source all of whose wrong bodies were disproved."""
 
 import math
 import os
@@ -17,15 +11,14 @@ import time
 from collections import Counter, defaultdict
 from collections.abc import Iterator
 from contextlib import contextmanager, suppress
-from dataclasses import replace
 from pathlib import Path
 from threading import Lock
 from typing import IO, NamedTuple
 
 from tools.common import Tally
-from tools.crates import FUNCTION_HEAD, Crates, take_as_built
+from tools.crates import Crates, take_as_built
 from tools.edits.verdicts import Verdicts
-from tools.edits.wrong_body_edits import Edit, WrongBody, edited_files
+from tools.edits.wrong_body_edits import Edit, edited_files
 
 LIBRARY = Path("out/rlib")
 
@@ -179,15 +172,22 @@ def link(source: str, target: str) -> str:
     return target
 
 
-# what is generated for a function, in modules that its own proof files import
-GENERATED = r"\.(?:Goals|Given|Code|Statement)\b"
-# what a function's proof files may be: a proof by hand in `Proof.antt` exports a name made of the function's
-ANSWERS = {"Answers.antt", "Invariants.antt"}
-
-
 class Batch(NamedTuple):
+    """Edits that are tried together, each of another function."""
+
     crate: str
     edits: list[Edit]
+
+
+def batches(crate: str, edits: list[Edit], most: int) -> Iterator[Batch]:
+    """Batches of at most so many edits, in their order as far as that can be."""
+    while edits:
+        of_function: dict[str, Edit] = {}
+        for it in edits:
+            of_function.setdefault(it.function, it)
+        some = list(of_function.values())[:most]
+        yield Batch(crate, some)
+        edits = [it for it in edits if it not in some]
 
 
 class Trial:
@@ -220,10 +220,11 @@ class Trial:
 
     def judge(self, batch: Batch, jobs: int) -> None:
         """Judges a batch, up to where the time is over. What is said of each edit is kept as soon as it is known."""
-        if self.checks.are_over() or not batch.edits:
+        if self.checks.are_over():
             return
         crate, said = batch.crate, dict[str, str]()
-        together, alone = apart(batch.edits, self.crates.folder(crate))
+        # one that changes more than its function's body is checked by itself
+        together, alone = [it for it in batch.edits if it.body], [it for it in batch.edits if not it.body]
         with self.room(crate) as room, suppress(OutOfTime):
             while together:
                 verdict = self.check(room, crate, together, jobs)
@@ -250,8 +251,6 @@ class Trial:
         self.crates.copy(crate, copy)
         for file, text in (edited_files(edits, self.crates.folder(crate)) if edits[0].body else edits[0].files).items():
             (copy / file).write_text(text, encoding="utf-8")
-        for it in edits:
-            add_proof_files(it, copy)
         return check(self.checks, room, crate, sorted({name for it in edits for name in (it.function, *it.others)}), jobs)
 
     def say(self, said: dict[str, str]) -> None:
@@ -295,67 +294,3 @@ def what_is_said(edit: Edit, function: str, verdict: Verdict) -> str:
     said = verdict.functions[function]
     standing = edit.clauses - said.clauses
     return f"PROVED in its clauses {', '.join(sorted(standing))}" if standing and said.text != "PROVED" else said.text
-
-
-def apart(edits: list[Edit], crate: Path) -> tuple[list[Edit], list[Edit]]:
-    """The edits that one check can judge, each of a function of its own, and those that need a check each: an edit that
-    changes more than its function's body, or whose function can't have a twin."""
-    proofs = {file: file.read_text(encoding="utf-8") for file in (crate / "proofs").rglob("*.antt")}
-    seen: Counter[str] = Counter()
-    together: list[Edit] = []
-    alone: list[Edit] = []
-    for edit in edits:
-        seen[edit.function] += edit.body is not None
-        if edit.body and seen[edit.function] > 1:
-            twin = twin_of(edit, edit.body, crate, seen[edit.function]) if can_be_renamed(edit.function, crate, proofs) else None
-            (together if twin else alone).append(twin or edit)
-        else:
-            (together if edit.body else alone).append(edit)
-    return together, alone
-
-
-def twin_of(edit: Edit, body: WrongBody, crate: Path, number: int) -> Edit | None:
-    """The edit as one that adds a twin of its function, if a twin can be had."""
-    path, _, name = edit.function.rpartition("::")
-    own = f"{name}_wrong_{number}"
-    renamed, count = re.subn(rf"(?m)^({FUNCTION_HEAD}){name}\b", rf"\g<1>{own}", body.text)
-    if count != 1 or is_of_a_trait((crate / body.file).read_text(encoding="utf-8").splitlines(), body.place.start):
-        return None
-    return replace(edit, function=f"{path}::{own}", body=body._replace(text=renamed), twin_of=edit.function)
-
-
-def can_be_renamed(function: str, crate: Path, proofs: dict[Path, str]) -> bool:
-    """Whether the function's proof files, if it has some, are those of another function by changing what they import."""
-    folder = proof_folder(crate, function)
-    named = re.compile(re.escape(generated_path(crate, function)) + GENERATED)
-    return not any(
-        file.name not in ANSWERS or file.parent != folder if folder in file.parents else named.search(text) for file, text in proofs.items()
-    )
-
-
-def add_proof_files(edit: Edit, crate: Path) -> None:
-    source = proof_folder(crate, edit.twin_of)
-    if not edit.twin_of or not source.is_dir():
-        return
-    old, new = (generated_path(crate, it) for it in (edit.twin_of, edit.function))
-    target = proof_folder(crate, edit.function)
-    target.mkdir()
-    for file in source.iterdir():
-        text = re.sub(re.escape(old) + f"(?={GENERATED})", new, file.read_text(encoding="utf-8"))
-        (target / file.name).write_text(text, encoding="utf-8")
-
-
-def proof_folder(crate: Path, function: str) -> Path:
-    return crate.joinpath("proofs", *function.split("::")[1:])
-
-
-def generated_path(crate: Path, function: str) -> str:
-    return ".".join(["Rattle", crate.name, "proofs", *function.split("::")[1:]])
-
-
-def is_of_a_trait(lines: list[str], start: int) -> bool:
-    """Whether the function that begins there is a trait's or an implementation of one, which takes no further function."""
-    if not lines[start].startswith(" "):
-        return False
-    outer = next((it for it in reversed(lines[:start]) if re.match(r"(?:pub )?(?:unsafe )?(?:impl|trait)\b", it)), "trait")
-    return " for " in outer or "trait" in outer.partition("<")[0]

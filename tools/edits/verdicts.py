@@ -160,7 +160,7 @@ def whole(file: Path) -> str:
 def without_bodies(file: Path) -> str:
     """What is seen of a file elsewhere: of code neither bodies, nor how functions are proved and compiled."""
     lines = lines_of(file)
-    inside = {at for _, _, body in functions_in(lines) for at in body} if file.suffix == ".rt" else set()
+    inside = {at for _, body in functions_in(lines) for at in body} if file.suffix == ".rt" else set()
     return "\n".join(it for at, it in enumerate(lines) if at not in inside and not HOW.fullmatch(it))
 
 

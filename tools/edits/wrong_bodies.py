@@ -5,16 +5,15 @@ The files `crates/NAME/wrong-bodies/*.edits` have a line `=== src/SOURCE.rt` abo
 `function: PATH, PATH` where each of several must, or `function: every clause of PATH`; and pairs of lines `old: TEXT`, `new: TEXT`, where
 the old text stands once in the source. Below a line `file: src/..` the texts are of that file.
 
-A function's proof reads the contracts of what it calls, and not the bodies; so one check of a copy of
-the crate judges one wrong body each of many functions, and says of each function whether its own proof stands or only
-waits for another's. A function with several wrong bodies is given a twin for each further one. An edit that changes more than
-a function's body has a check of its own.
+A function's proof reads the contracts of what it calls, and not the bodies; so one check of a copy of the crate judges one wrong body each
+of many functions, and says of each function whether its own proof stands or only waits for another's. An edit that changes more than a
+function's body has a check of its own.
 
 A source is open if its line in wrong-bodies.txt is missing or no longer stands. Without a crate's name, the wrong bodies of all open
 sources are tried, and besides ten each of two crates whose lines stand, picked by the commit. `--all` tries all.
 Where a source's wrong bodies are all disproved, its line is written. `--only` tries the edits of that name alone, and writes no line.
 
-`--minutes N` tries for so long by the clock, a few edits of one source at a time, the oldest source first and by turns some of those that
+`--minutes N` tries for so long by the clock, a few edits of one crate at a time, the oldest source first and by turns some of those that
 are picked. A check that is running then is ended, and its edits count neither as passed nor as failed. What stays open is listed.
 `--open` lists what is open, the oldest first, and tries nothing.
 
@@ -32,14 +31,14 @@ import subprocess
 import sys
 import tempfile
 from functools import partial
-from itertools import zip_longest
+from itertools import groupby, zip_longest
 from pathlib import Path
 from types import FrameType
 
 from tools.build import Build, Unproved
 from tools.common import ROOT, Tally, parser_of
 from tools.crates import Crates, Step, processors, run_steps, version
-from tools.edits.trial import LIBRARY, Batch, Checks, Trial
+from tools.edits.trial import LIBRARY, Batch, Checks, Trial, batches
 from tools.edits.verdicts import OpenSource, Verdicts, list_of, logic_in
 from tools.edits.wrong_body_edits import MUST_FAIL, WRONG_BODIES, Edit, read_edits, written_edits
 
@@ -78,17 +77,18 @@ class Choice:
         return [f"{crate}/{it.name}" for it in self.verdicts.sources(crate)[source]]
 
     def whole_batches(self) -> list[Batch]:
-        return [Batch(crate, [*edits, *self.sample[crate]]) for crate, edits in self.edits.items()]
+        whole = {crate: [*edits, *self.sample[crate]] for crate, edits in self.edits.items()}
+        return [it for crate, edits in whole.items() for it in batches(crate, edits, len(edits))]
 
     def small_batches(self, opened: list[OpenSource]) -> list[Batch]:
-        """Batches of a few edits of one source: what is open, the oldest first, and by turns the sample, so that neither waits for the
-        other."""
-        edits = {it.label: it for its in self.edits.values() for it in its}
-        of_open = [(it.crate, [edits[label] for label in self.labels(it.crate, it.source) if label in edits]) for it in opened]
-        small = (
-            [Batch(crate, its[at : at + AT_ONCE]) for crate, its in whole for at in range(0, len(its), AT_ONCE)]
-            for whole in (of_open, list(self.sample.items()))
-        )
+        """Batches of a few edits: what is open, the oldest first, and by turns the sample, so that neither waits for the other."""
+        good = {it.label: it for its in self.edits.values() for it in its}
+        small: list[list[Batch]] = [[], []]
+        for (_, crate), its in groupby(opened, lambda it: (it.day, it.crate)):
+            labels = [label for it in its for label in self.labels(crate, it.source)]
+            small[0] += batches(crate, [good[it] for it in labels if it in good], AT_ONCE)
+        for crate, edits in self.sample.items():
+            small[1] += batches(crate, edits, AT_ONCE)
         return [batch for turn in zip_longest(*small) for batch in turn if batch]
 
 

@@ -9,8 +9,6 @@ from dataclasses import dataclass, replace
 from pathlib import Path
 from typing import NamedTuple
 
-from tools.crates import FUNCTION_HEAD
-
 # the folders of edits, and how their files end
 WRONG_BODIES, MUST_FAIL = "wrong-bodies", "must-fail"
 ENDINGS = {WRONG_BODIES: ".edits", MUST_FAIL: ".edit"}
@@ -20,8 +18,8 @@ SOURCE = re.compile(r"^=== (src/\S+)$", re.MULTILINE)
 PAIR = r"(?:file: *({0}\S+) *\n+)?old: ?({0}.*)\nnew: ?({0}.*)\n+"
 CHANGE = re.compile(PAIR.format(""))
 EDIT = re.compile(rf"^\[([a-z0-9]+(?:-[a-z0-9]+)*)\]\nfunction: (.*)\n+((?:{PAIR.format('?:')})+)", re.MULTILINE)
-# how a function begins, with its name
-HEAD = re.compile(rf"{FUNCTION_HEAD}(\w+)")
+# how a function begins, by the layout that `rt fmt` gives: what it is indented by, and its name
+HEAD = re.compile(r"( *)(?:pub(?:\([^)]*\))? )?(?:const |unsafe )*fn (\w+)")
 EVERY_CLAUSE = "every clause of "
 
 
@@ -41,7 +39,7 @@ class WrittenEdit:
 
 
 class WrongBody(NamedTuple):
-    """Where a function stands with what is right above it, by its lines counted from 0, and its text with the wrong body."""
+    """Where the body of a function stands, by its lines counted from 0, and the wrong one."""
 
     file: str
     place: range
@@ -61,8 +59,6 @@ class Edit:
     files: dict[str, str]
     # where it changes no more than the function's body
     body: WrongBody | None
-    # the function that `function` is a twin of, if it is one
-    twin_of: str = ""
 
 
 def written_edits(crate: Path, folders: list[str]) -> list[WrittenEdit]:
@@ -148,19 +144,17 @@ def clauses_of(function: str, crate: Path) -> frozenset[str]:
 
 
 def wrong_body(name: str, file: str, before: str, after: str) -> WrongBody | None:
-    """The function of that name with its wrong body, if nothing but that body was changed."""
+    """The wrong body of the function of that name, if nothing but its body was changed."""
     lines = before.splitlines(keepends=True)
-    for other, whole, body in functions_in(lines):
+    for other, body in functions_in(lines):
         head, end = "".join(lines[: body.start]), "".join(lines[body.stop :])
         if other == name and after.startswith(head) and after.endswith(end) and len(after) >= len(head) + len(end):
-            stop = len(after) - len("".join(lines[whole.stop :]))
-            return WrongBody(file, whole, after[len("".join(lines[: whole.start])) : stop])
+            return WrongBody(file, body, after[len(head) : len(after) - len(end)])
     return None
 
 
-def functions_in(lines: list[str]) -> Iterator[tuple[str, range, range]]:
-    """Each function that has a body of some lines, by the layout that `rt fmt` gives: its name, its lines with those right above it, and
-    those of its body."""
+def functions_in(lines: list[str]) -> Iterator[tuple[str, range]]:
+    """Each function that has a body of some lines, by the layout that `rt fmt` gives: its name, and the lines of its body."""
     for at, line in enumerate(lines):
         if not (head := HEAD.match(line)):
             continue
@@ -168,20 +162,17 @@ def functions_in(lines: list[str]) -> Iterator[tuple[str, range, range]]:
         opens = next((to for to in range(at, len(lines)) if last.fullmatch(lines[to])), at)
         end = next((to for to in range(opens, len(lines)) if lines[to].rstrip() == f"{head[1]}}}"), None)
         if end is not None and lines[opens].rstrip().endswith("{"):
-            above = next((to for to in range(at, 0, -1) if not lines[to - 1].strip() or lines[to - 1].rstrip()[-1] in "{}"), 0)
-            yield head[2], range(above, end + 1), range(opens + 1, end)
+            yield head[2], range(opens + 1, end)
 
 
 def edited_files(edits: list[Edit], crate: Path) -> dict[str, str]:
-    """What edits of bodies make of the crate's files together: a twin is added below its function."""
-    bodies = [(it.body, bool(it.twin_of)) for it in edits if it.body]
+    """What edits of bodies, each of another function, make of the crate's files together."""
+    bodies = [it.body for it in edits if it.body]
     texts = {}
-    for file in sorted({body.file for body, _ in bodies}):
+    for file in sorted({it.file for it in bodies}):
         lines = (crate / file).read_text(encoding="utf-8").splitlines(keepends=True)
-        # from the end of the file, and below a function first, so that what is still to be changed keeps its place
-        here = (it for it in bodies if it[0].file == file)
-        for body, is_twin in sorted(here, key=lambda it: (-it[0].place.start, not it[1])):
-            start = body.place.stop if is_twin else body.place.start
-            lines[start : body.place.stop] = ["\n" + body.text if is_twin else body.text]
+        # from the end of the file, so that what is still to be changed keeps its place
+        for body in sorted((it for it in bodies if it.file == file), key=lambda it: -it.place.start):
+            lines[body.place.start : body.place.stop] = [body.text]
         texts[file] = "".join(lines)
     return texts
