@@ -11,8 +11,9 @@ from tools.language import line_of, lines_by_kind, words_of_roles
 
 # the first words of a run's lines, and the values of the definitions that words in them name, which tools/shorthands.txt imports
 RUN_LINES = ("print", "note", "attempt", "ended", "left", "leaks", "leak", "panic", "nocleanup", "cut", "steps")
+NOTES = ("heap", "available", "compress")
 VALUES = {
-    **{it: it.capitalize() for it in ("heap", "available", "compress", "granted", "simulated", "refused", "budget", "ceiling")},
+    **{it: it.capitalize() for it in (*NOTES, "granted", "simulated", "refused", "budget", "ceiling")},
     **{it: f"P.{it.capitalize()}" for it in ("USER", "ALLOC", "WORKBENCH")},
 }
 
