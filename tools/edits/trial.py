@@ -5,7 +5,6 @@ import math
 import os
 import re
 import shutil
-import signal
 import subprocess
 import time
 from collections import Counter, defaultdict
@@ -56,38 +55,20 @@ class Checks:
         return time.monotonic() >= self.end
 
     def run(self, words: list[str], folder: Path, log: IO[str]) -> None:
-        """Runs a check in a folder, and adds what it prints to a log. Where the time is over before its end, ends it with all that it has
-        started, and raises `OutOfTime`."""
+        """Runs a check in a folder, and adds what it prints to a log. Where the time is over before its end, ends it, and raises
+        `OutOfTime`: all that `rt` starts ends with it."""
         if self.are_over():
             raise OutOfTime
-        # a session of its own holds all that it starts, in whatever group that is
+        # in a session of its own an interrupt of this process doesn't reach it
         with subprocess.Popen(
             words, cwd=folder, stdin=subprocess.DEVNULL, stdout=log, stderr=subprocess.STDOUT, start_new_session=True
         ) as check:
             while check.poll() is None:
                 if self.are_over():
-                    end_session(check.pid)
+                    check.kill()
                     raise OutOfTime
                 with suppress(subprocess.TimeoutExpired):
                     check.wait(LOOK)
-
-
-def end_session(leader: int) -> None:
-    """Ends all processes of a session, by the one that leads it and isn't waited for yet; returns when none is running."""
-    while running := [it for it in map(int, filter(str.isdigit, os.listdir("/proc"))) if session_of(it) == leader]:
-        for it in running:
-            with suppress(ProcessLookupError):
-                os.kill(it, signal.SIGKILL)
-        time.sleep(LOOK / 10)
-
-
-def session_of(process: int) -> int | None:
-    # one that ends meanwhile can't be read
-    with suppress(OSError):
-        # its name, in brackets, may hold anything
-        state, _, _, session = Path(f"/proc/{process}/stat").read_text(encoding="utf-8", errors="replace").rpartition(")")[2].split()[:4]
-        return int(session) if state not in "ZX" else None
-    return None
 
 
 class Said(NamedTuple):
