@@ -218,13 +218,11 @@ def lose_messages(words: list[str]) -> int:
 
     Standard error is closed, then a device without room, then a pipe that nobody reads. Standard output and status must be the same.
     """
-    parser = program_parser(lose_messages.__doc__)
-    parser.add_argument("groups", nargs="*", metavar="GROUP", default=[""])
-    given, tally = parser.parse_args(words), Tally()
-    cases, failed = [case for group in given.groups for case in cases_of(group) if case.stderr is not None], set()
+    program, tally = program_parser(lose_messages.__doc__).parse_args(words).program, Tally()
+    cases, failed = [it for it in cases_of("") if it.stderr is not None], set()
     for way, streams in ways_to_lose("stderr"):
         for case in cases:
-            _, fault = tried(given.program, case.args, case.script, partial(fault_of, replace(case, stderr=None)), **streams)
+            _, fault = tried(program, case.args, case.script, partial(fault_of, replace(case, stderr=None)), **streams)
             if fault is not None:
                 print(f"{case.place}: standard error {way}: {fault}")
                 failed.add(case.place)

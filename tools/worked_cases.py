@@ -25,7 +25,6 @@ PLAIN = re.compile(rb"([\x20-\x7e]*\n)*")
 NAMED = re.compile(r"(?:^| ) # (\S+)$")
 
 ESCAPES = {"n": "\n", "t": "\t", "r": "\r", "\\": "\\", "e": "", "\n": ""}
-SPELLED = {"\\": "\\\\", "\t": "\\t", "\r": "\\r"}
 REPEAT = r"\\\{([^\\:]*):((?:\\[^}]|[^\\])*)\\\}"
 ALONE = re.compile(rf"^{REPEAT}\n", re.DOTALL | re.MULTILINE)
 ESCAPE = re.compile(rf"{REPEAT}|\\(?:x([0-9a-f]{{2}})|(\n|.|\Z))", re.DOTALL)
@@ -81,8 +80,7 @@ def range_of(text: str) -> list[str]:
 
 def spelled_line(line: str) -> str:
     """A line as it is written, without its line feed. It ends with no blank, and isn't taken for one that begins a part of a case."""
-    text = "".join(SPELLED.get(it) or (it if " " <= it <= "~" else f"\\x{ord(it):02x}") for it in line)
-    text = re.sub(" $", r"\\x20", text)
+    text = re.sub(" $", r"\\x20", line.encode("unicode_escape").decode("ascii"))
     return f"\\x{ord(text[0]):02x}{text[1:]}" if MARKER.match(text) else text
 
 

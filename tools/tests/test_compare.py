@@ -25,7 +25,6 @@ from tools.comparisons.made_scripts import PARTS, scripts
 from tools.comparisons.single_runs import joined
 from tools.comparisons.sweeps import BY_NUMBER, FAILURES, LISTINGS, PAIRS, SETS, SINGLE, Swept, failures, parts_of, spread
 from tools.door import said_by
-from tools.terms import Reader
 from tools.tests import InRoom
 
 ATTEMPTS, GREATEST = 3, 7
@@ -327,8 +326,6 @@ class WhatIsTried(InRoom):
         self.assertEqual((scripts(20), made[:20]), (scripts(40)[:20], scripts(20)))
         self.assertNotEqual(scripts(20), scripts(20, seed=2))
         self.assertGreaterEqual(len(set(made)), 290)
-        for it in (*made, *scripts(60, sorts="three four remembered")):
-            Reader(it).script()
         words = {line.split()[0] for it in made for line in it.splitlines()}
         asking = {"alloc", "allocl", "realloc", "hnew", "hnewl", "hrealloc", "newleave", "push", "pushobj", "pushop"}
         self.assertLessEqual(asking | {"failnext", "failevery", "failnone", "mark", "trap", "leave"}, words)
