@@ -143,19 +143,16 @@ class Unproved:
             os.utime(place)
         return place if place.exists() else None
 
-    def can_keep(self) -> bool:
-        """Whether a program can be kept: whether the folder can be written."""
-        with contextlib.suppress(OSError):
-            self.folder.mkdir(parents=True, exist_ok=True)
-        return os.access(self.folder, os.W_OK | os.X_OK)
-
     def keep(self) -> Path:
-        """Compiles the program and keeps it, unless another call has done so meanwhile."""
+        """Compiles the program and keeps it, unless another call has done so meanwhile. Raises `OSError` where it can't be kept."""
+        self.folder.mkdir(parents=True, exist_ok=True)
         with alone_in(self.folder, f"{NAME}: waiting for another call, which compiles them"), self.room() as room:
             # of the copy, since the sources may be changed meanwhile
             place, new = self.place(Crates(room)), self.folder / ".new"
             if not place.exists():
-                new.unlink(missing_ok=True)
+                # where the folder can't be written, this fails before anything is compiled
+                new.touch()
+                new.unlink()
                 self.compile(room, new)
                 new.replace(place)
                 # one that runs stays until it ends, and only its name is gone
@@ -272,16 +269,13 @@ def answer_unproved(why: str, crates: Crates, words: list[str]) -> int:
         return NOT_BUILT
     unproved = Unproved(crates, Path(command))
     program = unproved.kept()
-    can_keep = not program and unproved.can_keep()
     if program:
         say(f"{why}, so this is what the same sources answer, compiled without their proof;")
-    elif can_keep:
-        say(f"{why}, so these sources are compiled without their proof, in about two to three minutes, and the next answer comes at once;")
     else:
-        say(f"{why}, so these sources are compiled without their proof for this one answer, in about two to three minutes;")
+        say(f"{why}, so these sources are compiled without their proof, in about two to three minutes, and the next answer comes at once;")
     say("./build proves and builds the program, in one to two hours")
     try:
-        program = program or compiled(unproved, can_keep)
+        program = program or compiled(unproved)
     except NoProgram as refused:
         if refused.ran:
             with unproved.room() as room:
@@ -291,14 +285,13 @@ def answer_unproved(why: str, crates: Crates, words: list[str]) -> int:
     become([*unproved.words(program), *words], environment())
 
 
-def compiled(unproved: Unproved, can_keep: bool) -> Path:
+def compiled(unproved: Unproved) -> Path:
     """The program as it is compiled now."""
     try:
-        if can_keep:
-            return unproved.keep()
+        return unproved.keep()
     except OSError as fault:
-        say(f"what was compiled can't be kept: {fault}")
-    return unproved.once()
+        say(f"it is compiled for this one answer, since it can't be kept: {fault}")
+        return unproved.once()
 
 
 def become(words: list[str], environment: dict[str, str], file: str = "") -> NoReturn:
