@@ -23,7 +23,6 @@ import re
 import subprocess
 import tempfile
 from bisect import bisect_left
-from collections.abc import Callable, Iterable
 from concurrent.futures import ThreadPoolExecutor
 from functools import partial
 from itertools import accumulate, pairwise, takewhile, zip_longest
@@ -78,9 +77,6 @@ ATTEMPT_OF_RUN = re.compile(r"attempt (\d+) of the run, at line \d+")
 NO_RISE = re.compile(r"(?:re)?alloc .*, rise false, trace 0")
 FEWEST_WITHOUT_RISE = 180
 
-# makes runs by their numbers, one by one or side by side
-Each = Callable[[Callable[[int], Answer], Iterable[int]], Iterable[Answer]]
-
 NO_MEMORY = Answer(b"no memory\n", b"", WANT_OF_MEMORY)
 NO_MEMORY_FOR_THE_COMMAND = (Answer(b"", b"error: no memory\n", WANT_OF_MEMORY), Answer(b"", b"", WANT_OF_MEMORY))
 
@@ -102,10 +98,11 @@ def shown(answer: Answer, plain: Answer) -> str:
 
 
 class Trial:
-    """A program with the library that refuses allocations; one that makes calls once more where it found no memory is given no script."""
+    """A program with the library that refuses allocations, whose runs go side by side; one that makes calls once more where it found no
+    memory is given no script."""
 
-    def __init__(self, program: Path, script: Path | None, room: Path, each: Each = map) -> None:
-        self.program, self.library, self.each = program, room / "failing_allocation.so", each
+    def __init__(self, program: Path, script: Path | None, room: Path, pool: ThreadPoolExecutor) -> None:
+        self.program, self.library, self.pool = program, room / "failing_allocation.so", pool
         self.words, self.given, self.is_same = list[str](), b"", script is None
         self.count = room / f"{(script or program).stem}.count"
         if script and (script.is_absolute() or script.exists()):
@@ -160,7 +157,7 @@ class Trial:
             return asked, last, 0
         for how in WAYS:
             was_read, wanted, numbers = False, list[int](), self.numbers(last)
-            for number, answer in zip(numbers, self.each(partial(self.run, how), numbers)):
+            for number, answer in zip(numbers, self.pool.map(partial(self.run, how), numbers)):
                 was_read |= answer == NO_MEMORY
                 wanted += [number] if self.wants(answer, plain) else []
                 if not self.is_fine(how, answer, plain, was_read):
@@ -221,14 +218,11 @@ def main(words: list[str]) -> int:
     given = parser.parse_args(words)
     if given.same and given.scripts:
         parser.error("either scripts or --same")
-    program = CALLS if given.same and given.program == PROGRAM else given.program
-    scripts, tally = given.scripts or [*examples(), *map(Path, TRIED)], Tally()
+    program, tally = CALLS if given.same and given.program == PROGRAM else given.program, Tally()
+    scripts: list[Path | None] = [None] if given.same else given.scripts or [*examples(), *map(Path, TRIED)]
     with tempfile.TemporaryDirectory() as folder, ThreadPoolExecutor(processors(RUN_MEMORY)) as pool:
         room = Path(folder)
         subprocess.run(["cc", "-O1", "-shared", "-fPIC", "-o", room / "failing_allocation.so", SOURCE, "-ldl"], check=True)
-        if given.same:
-            tally.check(passes(Trial(program, None, room, pool.map), program))
-        else:
-            for is_fine in pool.map(lambda it: passes(Trial(program, it, room), it), scripts):
-                tally.check(is_fine)
+        for script in scripts:
+            tally.check(passes(Trial(program, script, room, pool), script or program))
     return tally.end()

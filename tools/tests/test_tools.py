@@ -208,7 +208,7 @@ class RunsSideBySide(InRoom):
 
         self.put("program.count", f"8 1\n{LAST}\n")
         with ThreadPoolExecutor(4) as pool, patch.object(Trial, "run", run), patch.object(Trial, "asked_needlessly", return_value=None):
-            return Trial(self.room / "program", None, self.room, pool.map).fault()
+            return Trial(self.room / "program", None, self.room, pool).fault()
 
     def test_answers(self) -> None:
         self.assertEqual(self.fault({}), (None, LAST, 0))
