@@ -6,7 +6,7 @@ import tempfile
 from collections import Counter
 from collections.abc import Iterator
 from concurrent.futures import ProcessPoolExecutor
-from functools import partial
+from functools import cache, partial
 from itertools import count
 from pathlib import Path
 from typing import NamedTuple
@@ -22,21 +22,28 @@ NUMBERS = [b"0", b"1", b"-1", b"15", b"16", b"80", b"255", b"65536", b"524286", 
 LINE, BYTE = re.compile(rb"[^\n]*\n"), re.compile(rb"(?s).")
 # how often each of these is changed: most changes leave a script that is read, so that its runs are tried as well
 PIECES = {NUMBER: 8, LINE: 4, WORDS: 2, BYTE: 1}
-# how many scripts a process makes at once
+# how many scripts a process is given at once
 SHARE = 500
 # what the program is asked for in turn, and within how many seconds; there are about half as many pairs as the square of the attempts
 COMMANDS = ((["check", "--budget", "200"], 1), (["check", "--budget", "200", "--every"], 1), (["check", "--budget", "50", "--pairs"], 5))
 
 
+@cache
 def seeds() -> list[bytes]:
     """The scripts of the cases and examples, but for the largest."""
     scripts = [it.script for it in cases_of("")] + [it.read_bytes() for it in examples()]
     return [text for text in scripts if 0 < len(text) <= 4000]
 
 
-def damaged(chance: random.Random, scripts: list[bytes], words: list[bytes]) -> bytes:
+@cache
+def words_of_seeds() -> list[bytes]:
+    return sorted({word for text in seeds() for word in WORDS.findall(text)})
+
+
+def damaged(chance: random.Random) -> bytes:
     """A script with a few changes of a number, a line, a word or a byte. A line is dropped, doubled, moved, or put in from another script;
     of the others another one stands in the place of one; bytes are put in or cut off as well."""
+    scripts, words = seeds(), words_of_seeds()
     text = chance.choice(scripts)
     for piece in chance.choices(list(PIECES), list(PIECES.values()), k=chance.choice((1, 1, 2, 3, 5))):
         found = [it.span() for it in piece.finditer(text)]
@@ -57,28 +64,22 @@ def damaged(chance: random.Random, scripts: list[bytes], words: list[bytes]) -> 
     return text
 
 
-def share_of(seed: int, program: Path, keep: Path) -> tuple[list[str], Counter[str]]:
-    """What is said of the scripts of a share that fail, and how often each status comes."""
-    chance, scripts = random.Random(seed), seeds()
-    words = sorted({word for text in scripts for word in WORDS.findall(text)})
-    faults: list[str] = []
-    statuses: Counter[str] = Counter()
-    for number in range(SHARE):
-        text = damaged(chance, scripts, words)
-        command, seconds = COMMANDS[number % len(COMMANDS)]
-        try:
-            answer = answer_of(program, *command, script=text, seconds=seconds)
-            told = f"status {answer.status}"
-            fault = "" if 0 <= answer.status <= CUT else f"{told}, {answer.output[:80]!r}"
-        except NoAnswer as late:
-            told, fault = "no answer", str(late)
-        statuses[told] += 1
-        if fault:
-            keep.mkdir(exist_ok=True, parents=True)
-            file = keep / f"{seed}-{number}.oom"
-            file.write_bytes(text)
-            faults.append(f"{file}: {' '.join(command)}: {fault}")
-    return faults, statuses
+def tried(number: int, seed: int, program: Path, keep: Path) -> tuple[str, str]:
+    """What comes of a damaged script, and what is wrong with that, if something is."""
+    text = damaged(random.Random(f"{seed} {number}"))
+    command, seconds = COMMANDS[number % len(COMMANDS)]
+    try:
+        answer = answer_of(program, *command, script=text, seconds=seconds)
+        told = f"status {answer.status}"
+        fault = "" if 0 <= answer.status <= CUT else f"{told}, {answer.output[:80]!r}"
+    except NoAnswer as late:
+        told, fault = "no answer", str(late)
+    if fault:
+        keep.mkdir(exist_ok=True, parents=True)
+        file = keep / f"{seed}-{number}.oom"
+        file.write_bytes(text)
+        fault = f"{file}: {' '.join(command)}: {fault}"
+    return told, fault
 
 
 def fuzz(words: list[str]) -> int:
@@ -91,15 +92,12 @@ def fuzz(words: list[str]) -> int:
     parser.add_argument("--scripts", type=int, default=300_000, metavar="N", help="how many scripts [default: 300000]")
     parser.add_argument("--seed", type=int, default=1, metavar="N", help="which scripts [default: 1]")
     parser.add_argument("--keep", type=Path, default=Path("fuzz-found"), metavar="FOLDER", help="where scripts go that fail")
-    given = parser.parse_args(words)
-    shares = range(-(-given.scripts // SHARE))
-    tally, statuses = Tally(), Counter[str]()
+    given, tally, statuses = parser.parse_args(words), Tally(), Counter[str]()
     with ProcessPoolExecutor(processors(RUN_MEMORY)) as pool:
-        share = partial(share_of, program=given.program, keep=given.keep)
-        for faults, told in pool.map(share, (given.seed * 1_000_000 + it for it in shares)):
-            print("".join(f"{it}\n" for it in faults), end="", flush=True)
-            tally.add(SHARE - len(faults), len(faults))
-            statuses += told
+        each = partial(tried, seed=given.seed, program=given.program, keep=given.keep)
+        for told, fault in pool.map(each, range(given.scripts), chunksize=SHARE):
+            tally.check(not fault, fault)
+            statuses[told] += 1
     print(", ".join(f"{told} {count} times" for told, count in sorted(statuses.items())))
     return tally.end()
 
