@@ -80,7 +80,9 @@ def edits_in(folder: Path) -> Iterator[WrittenEdit]:
             found += [WrittenEdit(name, functions, tuple(changes_in(pairs, source))) for name, functions, pairs in EDIT.findall(part)]
             other += EDIT.sub("", part).strip()
         yield from found
-        fault = f"what stands there isn't understood: {other.splitlines()[0]}" if other else "" if found else "it holds no edit"
+        fault = "" if found else "it holds no edit"
+        if other:
+            fault = f"what stands there isn't understood: {other.splitlines()[0]}"
         if path.suffix != ENDINGS[folder.name]:
             fault = f"its name doesn't end in {ENDINGS[folder.name]}"
         if fault:
