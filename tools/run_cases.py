@@ -4,11 +4,12 @@ A NAME is that of a group or of a folder of groups, of a script or a table in on
 (`guide/two-cells.run`); without one all cases are run. Of each failing case the difference is shown, from the case as it is to the one
 that the program's answer would make. With --write that is put into the group's file: look at each difference then, since a case's answer
 must come from the rules and not from the program. Tables are never written. A case that is written has passed. Nothing is written by a
-program of ./build that is older than its sources.
+program of ./build that is older than its sources. With --show cases are shown as they would be typed in a shell.
 """
 
 import os
 import re
+import shlex
 import sys
 from collections.abc import Callable, Iterator
 from dataclasses import replace
@@ -19,7 +20,7 @@ from typing import Any, NamedTuple
 
 from tools.common import CASES, CUT, FINE, FOUND, PROGRAM, REFUSED, ROOT, Answer, NoAnswer, Tally, answer_of, program_parser
 from tools.crates import Crates
-from tools.worked_cases import SUFFIX, Block, Case, CaseError, Group, cases_of, files_in, meaning, read
+from tools.worked_cases import SUFFIX, Block, Case, CaseError, Group, cases_of, files_in, meaning, read, spelled
 
 # a longer difference is cut
 MOST_LINES = 100
@@ -105,6 +106,23 @@ def wanted_of(answer: str) -> tuple[tuple[int, ...], re.Pattern[bytes]]:
     return (int(status),), re.compile("".join(lines if text else []).encode())
 
 
+def shown(case: Case) -> str:
+    lines = [f"# {case.place}: status {case.status}", typed(case.script, shlex.join(["./workbench", *case.args]))]
+    for name, text in (("standard output", case.stdout), ("standard error", case.stderr)):
+        lines += [] if text is None else [f"# {name}:", *(f"#     {it}".rstrip() for it in spelled(text))]
+    return "\n".join([*lines, ""])
+
+
+def typed(script: bytes, command: str) -> str:
+    lines = script.decode("latin-1").split("\n")
+    if not script:
+        return f"{command} </dev/null"
+    if lines[-1] or "END" in lines or not re.fullmatch(rb"[\t\n\x20-\x7e]*", script):
+        octal = "".join(chr(it) if 32 <= it < 127 and chr(it) not in "\\%'" else f"\\{it:03o}" for it in script)
+        return f"printf '{octal}' | {command}"
+    return "\n".join([f"{command} <<'END'", *lines[:-1], "END"])
+
+
 def tried(
     program: Path, words: list[str], script: bytes, fault_in: Callable[[Answer], str | None], **streams: Any
 ) -> tuple[Answer | None, str | None]:
@@ -142,6 +160,9 @@ class Chosen(NamedTuple):
         """Whether a name of the command line means this, or what it is a part of."""
         own = [self.block.name, *([self.case.name] if self.case else [])]
         return not name or f"{self.group.name}/".startswith(f"{name}/") or name in own or name in (f"{self.group.name}/{it}" for it in own)
+
+    def shown(self) -> str:
+        return shown(self.case) if self.case else "\n".join([*self.group.lines_of_block(self.block), ""])
 
     def told(self, program: Path, is_writing: bool) -> Iterator[tuple[bool, str]]:
         """Whether it has passed, or each of its rows, and what is to be said of that."""
@@ -182,10 +203,11 @@ def main(words: list[str]) -> int:
     parser = program_parser(__doc__)
     parser.add_argument("names", nargs="*", metavar="NAME", default=[""])
     parser.add_argument("--in", type=Path, default=CASES, metavar="FOLDER", dest="folder", help="the folder of the groups, if not cases/")
+    parser.add_argument("--show", action="store_true", help="show the cases as they would be typed in a shell, and run nothing")
     parser.add_argument("--write", action="store_true", help="write the program's answers into the cases that fail")
     given, tally = parser.parse_args(words), Tally()
     is_built = given.program == PROGRAM and PROGRAM.exists()
-    if is_built and (why := Crates().why_old()):
+    if not given.show and is_built and (why := Crates().why_old()):
         print(why + (": ./build comes before --write" if given.write else ""), file=sys.stderr)
         if given.write:
             return 1
@@ -194,11 +216,15 @@ def main(words: list[str]) -> int:
         chosen = [it for it in known if it.is_called(name)]
         if name and not chosen:
             tally.check(False, f"no case is called {name}")
-        for is_fine, said in (told for it in chosen for told in it.told(given.program, given.write)):
-            tally.check(is_fine, said)
-            if is_fine and said:
-                print(said)
-    return tally.end()
+        for it in chosen:
+            if given.show:
+                print(it.shown())
+                continue
+            for is_fine, said in it.told(given.program, given.write):
+                tally.check(is_fine, said)
+                if is_fine and said:
+                    print(said)
+    return tally.end() if not given.show or tally.failed else 0
 
 
 def ways_to_lose(stream: str) -> Iterator[tuple[str, dict[str, Any]]]:

@@ -1,6 +1,7 @@
 """Worked cases: what is read of texts and groups, what is none, what is said of cases that are run, and what is written into them."""
 
 import os
+import subprocess
 import unittest
 from dataclasses import replace
 from pathlib import Path
@@ -255,6 +256,15 @@ class OfCases(InRoom):
         for name in ("some", "cases/some.cases", "some/", ""):
             self.assertEqual(self.said(name)[1].splitlines()[-1], "3 passed, 1 failed")
         self.assertEqual(self.said("one.run", "three"), (1, "no case is called three\n1 passed, 1 failed\n"))
+
+    def test_what_is_shown(self) -> None:
+        for script in (b"", b"0", b"1a\n", b"1a\nEND\nb\n", b"2\xff\\%s'\r\t\n", b"0" + bytes(range(256))):
+            with self.subTest(script):
+                self.put_cases(replace(RIGHT, script=script, args=["run", "a b", "'", "#"]))
+                status, said = self.said("--show")
+                ran = subprocess.run(["sh", "-c", said], cwd=self.program.parent, capture_output=True)
+                self.assertEqual((status, ran.stdout, ran.stderr), (0, script[1:], b"run a b ' #"))
+                self.assertIn("# some/one.run: status 1\n", said)
 
     def test_messages_that_are_lost(self) -> None:
         self.put_cases(RIGHT, replace(RIGHT, name="two.run", stderr=None))
