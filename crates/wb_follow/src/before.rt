@@ -1,9 +1,9 @@
 //! What a machine shows before a turn, and would no longer show after the turn.
 
 use wb_heap_model::heap::{Attempt, Header, Item, Ptr};
-use wb_history::{Ahead, live_at};
 use wb_machine::Machine;
 use wb_tree::script::{Condition, Number, Statement};
+use wb_watch::{Ahead, live_at};
 
 /// The value of a statement's numbers or of its condition.
 #[derive(Clone, Copy, Debug, PartialEq, Eq)]

@@ -1,7 +1,7 @@
 //! What a machine turn begins, and at which line.
 
 use crate::open::{BegunAt, Doomed, ItemAt, RepeatAt};
-use wb_history::Ahead;
+use wb_watch::Ahead;
 
 /// What a machine turn begins.
 #[derive(Clone, Copy)]

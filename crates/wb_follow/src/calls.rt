@@ -4,9 +4,9 @@ use crate::begun::{Begun, What};
 use crate::rows::Rows;
 use crate::statements::put_pointer;
 use crate::turns::Plan;
-use wb_history::has_panicked;
 use wb_machine::Machine;
 use wb_tree::script::{Holder, Number, Parameter, Pointer, Statement};
+use wb_watch::has_panicked;
 
 /// What the statement of a row did, as far as this matters for the next row.
 #[derive(Clone, Copy)]

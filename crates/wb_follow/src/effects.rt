@@ -7,8 +7,8 @@ use crate::open::{ItemAt, Open};
 use crate::rows::Rows;
 use crate::statements::{put_attempt, put_count, put_free, put_freed, put_pointer, put_statement};
 use wb_heap_model::heap::Item;
-use wb_history::{Ahead, has_panicked};
 use wb_machine::Machine;
+use wb_watch::{Ahead, has_panicked};
 
 /// Says what a machine turn did, and brings `open` up to date. Returns whether the statement of the turn left.
 pub(crate) fn put_effects<'a>(

@@ -8,10 +8,11 @@ use std::alloc::Global;
 use wb_basics::limits::{CEILING, LARGEST_BUDGET};
 use wb_basics::memory::NoMemory;
 use wb_heap_model::heap::Panic;
-use wb_history::{RunParameters, machine_of};
+use wb_history::RunParameters;
 use wb_meaning::run::{Outcome, Why};
 use wb_runs::run_end::RunEnd;
 use wb_tree::script::Script;
+use wb_watch::machine_of;
 
 /// How a run ends.
 #[derive(Clone, Copy)]

@@ -11,8 +11,9 @@ use crate::window::{Asked, window_of};
 use std::alloc::Global;
 use wb_basics::limits::LARGEST_BUDGET;
 use wb_basics::memory::NoMemory;
-use wb_history::{RunParameters, ScriptLines, machine_of};
+use wb_history::{RunParameters, ScriptLines};
 use wb_tree::script::Script;
+use wb_watch::machine_of;
 
 /// The note after the rows that were written, if the workbench runs out of memory.
 const NO_MEMORY: &str = "note: memory ran out, so the rest of the run isn't followed\n";

@@ -6,9 +6,9 @@ use crate::begun::{Begun, What};
 use std::alloc::{AllocError, Global};
 use wb_basics::limits::MOST_FRAMES;
 use wb_heap_model::heap::{Header, Item, Ptr};
-use wb_history::{Ahead, has_panicked};
 use wb_machine::Machine;
 use wb_tree::script::Statement;
+use wb_watch::{Ahead, has_panicked};
 
 /// An item of the cleanup stack, and the line that pushed it.
 #[derive(Clone, Copy)]

@@ -4,9 +4,9 @@ use crate::before::{Before, Value};
 use crate::open::Open;
 use crate::rows::Rows;
 use wb_heap_model::heap::{Answer, Attempt, Header, Kind, Ptr};
-use wb_history::{Ahead, live_at};
 use wb_machine::Machine;
 use wb_tree::script::Statement;
+use wb_watch::{Ahead, live_at};
 
 /// Says what became of an attempt. `before` is the cell that the attempt was to make longer; `None` if the attempt was for a new cell.
 pub(crate) fn put_attempt(

@@ -6,9 +6,10 @@ ghost use Rattle.wb_tree.specs.Sound.{is_script};
 use std::alloc::Global;
 use wb_basics::limits::LARGEST_BUDGET;
 use wb_basics::memory::NoMemory;
-use wb_history::{RunParameters, machine_of};
+use wb_history::RunParameters;
 use wb_machine::Turn;
 use wb_tree::script::Script;
+use wb_watch::machine_of;
 
 /// Which steps of a run the user asks for.
 #[derive(Clone, Copy)]

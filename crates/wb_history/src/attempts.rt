@@ -4,7 +4,6 @@ use crate::makers::Maker;
 use std::alloc::{AllocError, Global};
 use wb_basics::limits::CEILING;
 use wb_heap_model::heap::{Answer, Attempt, Rule};
-use wb_machine::Machine;
 
 /// How many of a run's first attempts are kept in any case.
 const MOST_ATTEMPTS: usize = 100_000;
@@ -133,26 +132,8 @@ impl<'a> Attempts<'a> {
         self.kept.get(self.refused_at?).copied()
     }
 
-    /// Records the attempt that the last machine turn made, and returns this attempt; `None` if the turn made none.
-    pub fn see_newest(&mut self, machine: &Machine<'a>) -> Result<Option<Attempt>, AllocError> {
-        if self.count >= machine.attempts() {
-            return Ok(None);
-        }
-        self.see_last(machine)
-    }
-
-    /// Records the attempt that was made last, and returns it.
-    #[inline(never)]
-    fn see_last(&mut self, machine: &Machine<'a>) -> Result<Option<Attempt>, AllocError> {
-        let newest = machine.last_attempt();
-        if let Some(attempt) = newest {
-            let maker = Maker::of(machine.line(), machine.statement());
-            self.add(attempt, maker, machine.steps())?;
-        }
-        Ok(newest)
-    }
-
-    fn add(&mut self, attempt: Attempt, maker: Maker<'a>, step: u32) -> Result<(), AllocError> {
+    /// Records an attempt that was just made, what made it, and the step in which it was made. The only error is that memory ran out.
+    pub fn add(&mut self, attempt: Attempt, maker: Maker<'a>, step: u32) -> Result<(), AllocError> {
         self.count = self.count.saturating_add(1);
         let top = attempt.place.saturating_add(attempt.length);
         let is_rise = attempt.answer != Answer::Simulated && top > self.top;

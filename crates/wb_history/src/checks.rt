@@ -1,9 +1,7 @@
-//! Which cells a failed heap check counted. They are read from the machine that the check stopped.
+//! Which cells a failed heap check counted.
 
-use std::alloc::{AllocError, Global};
-use wb_heap_model::heap::{Kind, Panic, Ptr};
-use wb_machine::Machine;
-use wb_tree::script::{Number, Statement};
+use std::alloc::AllocError;
+use wb_heap_model::heap::Ptr;
 
 /// The most cells that are listed.
 const MOST_CELLS: usize = 20;
@@ -18,55 +16,18 @@ pub struct Counted {
     pub cells: Vec<Ptr>,
 }
 
-/// Returns the cells counted by the heap check whose panic ended the run; `None` if no check failed. The only error is that memory ran out.
-pub fn counted_by(machine: &Machine<'_>, alloc: Global) -> Result<Option<Counted>, AllocError> {
-    let Some((is_of_all, number)) = failed_check(machine) else {
-        return Ok(None);
-    };
-    let mut counted = Counted {
-        expected: machine.number(number),
-        found: 0,
-        cells: Vec::new(alloc),
-    };
-    let level = machine.level();
-    let (count, _) = machine.alloc_size();
-    let mut place = 0;
-    for _ in 0..count {
-        let Some(cell) = machine.next_live(place) else {
-            break;
-        };
-        place = cell.place.saturating_add(cell.length);
-        if cell.kind != Kind::Cleanup && (is_of_all || cell.level == level) {
-            counted.add(cell.pointer())?;
-        }
-    }
-    Ok(Some(counted))
-}
-
 impl Counted {
     /// Returns the lowest cell; `None` if no cell was counted.
     pub fn lowest(&self) -> Option<Ptr> {
         self.cells.first().copied()
     }
 
-    fn add(&mut self, cell: Ptr) -> Result<(), AllocError> {
+    /// Counts one more cell, the next in order of places. The only error is that memory ran out.
+    pub fn add(&mut self, cell: Ptr) -> Result<(), AllocError> {
         self.found = self.found.saturating_add(1);
         if self.cells.len() < MOST_CELLS {
             self.cells.push(cell)?;
         }
         Ok(())
-    }
-}
-
-/// Whether the check that failed counts the cells of all levels, and the operand that says how many cells it expects; `None` if no check
-/// failed.
-fn failed_check(machine: &Machine<'_>) -> Option<(bool, Number)> {
-    let Panic::Alloc(_) = machine.raised_panic()?.panic else {
-        return None;
-    };
-    match machine.statement()? {
-        Statement::CheckAll(number) => Some((true, *number)),
-        Statement::Check(number) | Statement::MarkEnd(number) => Some((false, *number)),
-        _ => None,
     }
 }

@@ -4,7 +4,6 @@ use crate::lives::End;
 use crate::series::Series;
 use std::alloc::{AllocError, Global};
 use wb_heap_model::heap::{Header, Kind, Ptr};
-use wb_machine::Machine;
 
 /// Stands for the step at which a part ends, if the part hasn't ended yet.
 pub const NEVER: u32 = u32::MAX;
@@ -111,16 +110,22 @@ impl Course {
         self.parts.as_slice()
     }
 
-    /// Notes the course's numbers after a machine turn, except for the number of open TRAPs.
+    /// Notes the heap's committed length, how many marks are open and how many items are on the cleanup stack after a step. The only error
+    /// is that memory ran out.
     #[inline(always)]
-    pub(crate) fn see_numbers(&mut self, machine: &Machine<'_>) -> Result<(), AllocError> {
+    pub fn note_numbers(
+        &mut self,
+        step: u32,
+        committed: u32,
+        level: u32,
+        items: u32,
+    ) -> Result<(), AllocError> {
         if !self.is_wanted {
             return Ok(());
         }
-        let step = machine.steps();
-        self.committed.note(step, machine.committed())?;
-        self.levels.note(step, machine.level())?;
-        self.items.note(step, machine.cleanup_depth())
+        self.committed.note(step, committed)?;
+        self.levels.note(step, level)?;
+        self.items.note(step, items)
     }
 
     /// Notes how many TRAPs were open after a step.

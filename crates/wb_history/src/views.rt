@@ -3,8 +3,6 @@
 use crate::statements::NULL;
 use std::alloc::{AllocError, Global};
 use wb_heap_model::heap::Ptr;
-use wb_machine::Machine;
-use wb_tree::script::{Readable, Statement, Writable};
 
 /// How many different indexes a body's locals may have: an index is one byte.
 const LOCALS: usize = 256;
@@ -30,25 +28,10 @@ impl Views {
         self.cells.get(at).copied().unwrap_or(NULL)
     }
 
-    /// Notes which cell's text a view shows, if this statement, which was carried out, changed the view.
-    pub fn see(&mut self, machine: &Machine<'_>, statement: &Statement) -> Result<(), AllocError> {
-        match statement {
-            Statement::Left(view, text, _)
-            | Statement::Right(view, text, _)
-            | Statement::Mid(view, text, ..) => {
-                let depth = machine.depth();
-                let cell = match text {
-                    Readable::Of(Writable::InCell(pointer)) => machine.pointer(*pointer),
-                    Readable::ViewOf(other) => self.cell_of(depth, *other),
-                    Readable::Of(Writable::OwnBuffer(_)) | Readable::Quoted(_) => NULL,
-                };
-                self.set(index_of(depth, *view), cell)
-            }
-            _ => Ok(()),
-        }
-    }
-
-    fn set(&mut self, at: usize, cell: Ptr) -> Result<(), AllocError> {
+    /// Notes which cell's text a view shows from now on in the body at this depth; null if it shows no cell's text. The only error is that
+    /// memory ran out.
+    pub fn set(&mut self, depth: u32, view: u8, cell: Ptr) -> Result<(), AllocError> {
+        let at = index_of(depth, view);
         if self.cells.len() <= at {
             self.cells.resize(at.saturating_add(1), NULL)?;
         }

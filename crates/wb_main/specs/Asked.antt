@@ -4,8 +4,8 @@ use Rattle.wb_command_line.specs.declared.command.Command.{Command}
 use Rattle.wb_command_line.specs.declared.command.Task.{Task}
 use Rattle.wb_command_line.specs.declared.command.Task.TheVariants.{Run, Size, Lengths, Sweep, Check}
 use Rattle.wb_history.specs.declared.parameters.RunParameters.{RunParameters}
-use Rattle.wb_history.specs.declared.watch.WatchedRun.{WatchedRun}
-use Rattle.wb_history.specs.Watched.{IsWatchedRun}
+use Rattle.wb_history.specs.declared.runs.WatchedRun.{WatchedRun}
+use Rattle.wb_watch.specs.Watched.{IsWatchedRun}
 use Rattle.wb_lengths.specs.Lengths.{first_bad}
 use Rattle.wb_runs.specs.declared.failures.Failing.{Failing}
 use Rattle.wb_heap_model.specs.declared.heap.Rule.{Rule}

@@ -17,11 +17,12 @@ use wb_explain::runs::{
     states_found,
 };
 use wb_heap_model::heap::Rule;
-use wb_history::{History, ScriptLines, Until, watch_attempts};
+use wb_history::{History, ScriptLines};
 use wb_runs::failures::Failures;
 use wb_runs::lengths::LengthRange;
 use wb_runs::number_ends::NumberEnd;
 use wb_tree::script::Script;
+use wb_watch::{Until, watch_attempts};
 use workbench::exit_status::NOTHING_FOUND;
 use workbench::findings::Findings;
 use workbench::{Command, Search, Task};

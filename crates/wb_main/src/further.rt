@@ -13,8 +13,9 @@ use wb_explain::runs::{
     Explanation, Question, ShellOptions, nothing_else, unasked_found, undecided_question,
 };
 use wb_heap_model::heap::{Numbers, Rule, Shape};
-use wb_history::{Keep, RunParameters, ScriptLines, watch_run};
+use wb_history::{Keep, RunParameters, ScriptLines};
 use wb_tree::script::Script;
+use wb_watch::watch_run;
 use workbench::Command;
 
 /// The additional questions of `check`, in the order in which it asks them.

@@ -1,8 +1,7 @@
 //! Which line is to be named for a panic: the line that was begun last, the line that destroyed something, or the line after which a
 //! TRAP or `main` ended.
 
-use wb_history::WatchedRun;
-use wb_machine::{Raised, Raiser};
+use wb_history::{Raised, Raiser, WatchedRun};
 
 /// The line that is to be named for the panic with which a run ended.
 pub fn line_of(raised: Raised, run: &WatchedRun<'_>) -> u32 {

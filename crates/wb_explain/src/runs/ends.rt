@@ -24,8 +24,7 @@ use crate::runs::sentences::put_values;
 use crate::runs::taken::{is_to_leave, put_cure_of_left};
 use crate::runs::told::put_life;
 use wb_heap_model::heap::{Panic, Rule};
-use wb_history::{Ended, Leave, Life, Meant, PointerState, Values, WatchedRun};
-use wb_machine::{Raised, Raiser};
+use wb_history::{Ended, Leave, Life, Meant, PointerState, Raised, Raiser, Values, WatchedRun};
 use wb_meaning::run::Outcome;
 
 /// Says what a run found: first which attempts failed because of the rule, and then how the run ended.

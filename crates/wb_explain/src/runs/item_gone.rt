@@ -3,8 +3,7 @@
 
 use crate::runs::script_page::{ScriptPage, Written};
 use crate::runs::taken::{Then, put_left};
-use wb_history::{By, End, Ended, Popped, Stay, WatchedRun};
-use wb_machine::Raiser;
+use wb_history::{By, End, Ended, Popped, Raiser, Stay, WatchedRun};
 
 /// Returns what to do about an item whose cell is gone because another item was popped in its place, or because the cell has two items;
 /// `None` if the cell is gone for another reason.

@@ -7,8 +7,7 @@ use crate::runs::paths::{AfterLine, body_name};
 use crate::runs::script_page::{ScriptPage, Written};
 use crate::runs::taken::{Then, cure_of_off, cure_of_taken, put_item_off, put_left, put_of_caller};
 use wb_heap_model::heap::Panic;
-use wb_history::{ItemOnStack, Origin, Stay, WatchedRun};
-use wb_machine::{Raised, Raiser};
+use wb_history::{ItemOnStack, Origin, Raised, Raiser, Stay, WatchedRun};
 
 /// The most items that are listed.
 const MOST_ITEMS: usize = 5;

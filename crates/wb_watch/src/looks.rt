@@ -1,12 +1,14 @@
 //! Single looks at a machine between two machine turns.
 
+use crate::raised::raised_by;
 use wb_heap_model::heap::{Header, Ptr};
-use wb_machine::{Machine, Raiser};
+use wb_history::Raiser;
+use wb_machine::Machine;
 
 /// Returns whether the statement that was begun last has itself panicked. A later panic at the end of the statement's block or body doesn't
 /// count.
 pub fn has_panicked(machine: &Machine<'_>) -> bool {
-    match machine.raised_panic() {
+    match raised_by(machine) {
         Some(raised) => match raised.raiser {
             Raiser::Statement | Raiser::Holder => true,
             Raiser::TrapEnd | Raiser::MainEnd | Raiser::Item | Raiser::Release => false,

@@ -1,17 +1,14 @@
 //! What becomes of cells in each machine turn: which are granted, moved, resized, freed and deleted.
 
-use crate::course::PartStart;
-use crate::lives::{By, End, Ended, Origin};
 use crate::looks::{are_free_but_for, is_live, live_at};
-use crate::moments::ShortLine;
-use crate::statements::{Ahead, NULL};
-use crate::turns::{Deletion, History};
+use crate::statements::Ahead;
+use crate::turns::{Deletion, Watcher};
 use std::alloc::AllocError;
 use wb_heap_model::heap::{Answer, Attempt, Header, Kind, Ptr};
+use wb_history::{By, End, NULL, Origin};
 use wb_machine::Machine;
-use wb_meaning::run::Outcome;
 
-impl<'a> History<'a> {
+impl<'a> Watcher<'a> {
     /// Records the cell that an attempt was granted: a new cell, a cell that moved, or a cell that grew at its place. Returns the cell's
     /// pointer; null if nothing was granted.
     #[inline(never)]
@@ -27,22 +24,19 @@ impl<'a> History<'a> {
         let Some(cell) = live_at(machine, attempt.place) else {
             return Ok(NULL);
         };
-        let start = self.start_now(attempt.number);
         if cell.number == attempt.number {
-            self.see_new_cell(machine, cell, start, ahead)?;
+            self.see_new_cell(machine, cell, ahead)?;
         } else {
-            self.lives.resize(cell, start.line);
-            self.course.resize(cell, start)?;
+            self.history.resize_cell(cell, attempt.number)?;
         }
         Ok(cell.pointer())
     }
 
-    /// Records a new cell, or a cell that moved, at its new place.
+    /// Records a new cell, or a cell that moved, at its new place. The cell has the number of its attempt.
     fn see_new_cell(
         &mut self,
         machine: &Machine<'a>,
         cell: Header,
-        start: PartStart,
         ahead: Option<&Ahead<'a>>,
     ) -> Result<(), AllocError> {
         let reallocates = ahead.is_some_and(|it| it.reallocates());
@@ -55,39 +49,21 @@ impl<'a> History<'a> {
             self.stack = cell.pointer();
         }
         let had_room = self.had_room(machine, old, cell);
-        self.note_end(
-            old,
-            Ended {
-                end: End::Moved,
-                by: By::Line,
-                at: ShortLine::of(start.line),
-                had_room,
-            },
-        );
-        self.course.begin(cell, start, old)?;
         let origin = match (reallocates, had_room) {
             (false, _) => Origin::Made,
             (true, false) => Origin::Reallocated,
             (true, true) => Origin::MovedWithRoom,
         };
-        self.lives.begin(cell, start.line, origin)
+        self.history.end_moved(old, had_room);
+        self.history.begin_cell(cell, old, origin)
     }
 
     /// Whether the cell that `old` named had room to grow at its place; `cell` is the same cell after it moved. False if `old` is null.
     fn had_room(&self, machine: &Machine<'a>, old: Ptr, cell: Header) -> bool {
         let until = old.place.saturating_add(cell.length);
         old.number != 0
-            && until <= self.attempts.bound()
+            && until <= self.history.attempts.bound()
             && are_free_but_for(machine, cell, old.place, until)
-    }
-
-    /// The start of a part of a cell's life that begins now. `attempt` is 0 if no attempt begins the part.
-    fn start_now(&self, attempt: u32) -> PartStart {
-        PartStart {
-            step: self.steps,
-            line: self.last,
-            attempt,
-        }
     }
 
     /// Records the length of a cell that was reallocated without an attempt.
@@ -96,12 +72,10 @@ impl<'a> History<'a> {
         machine: &Machine<'a>,
         pointer: Ptr,
     ) -> Result<(), AllocError> {
-        let Some(cell) = live_at(machine, pointer.place) else {
-            return Ok(());
-        };
-        self.lives.resize(cell, self.last);
-        let start = self.start_now(0);
-        self.course.resize(cell, start)
+        match live_at(machine, pointer.place) {
+            Some(cell) => self.history.resize_cell(cell, 0),
+            None => Ok(()),
+        }
     }
 
     /// Records which of the objects that are being deleted were released. If as many cells are live as before, none was released.
@@ -126,8 +100,7 @@ impl<'a> History<'a> {
             }
             self.deletions.pop();
             let Deletion { object, by, line } = deletion;
-            self.last_deleted = object;
-            self.end_life(object, End::Deleted, by, line);
+            self.history.end_deletion(object, by, line);
         }
     }
 
@@ -141,37 +114,7 @@ impl<'a> History<'a> {
         line: u32,
     ) {
         if !is_live(machine, pointer) {
-            self.end_life(pointer, end, by, line);
-        }
-    }
-
-    /// Notes that a cell's life ended, given the pointer that named the cell.
-    pub(crate) fn end_life(&mut self, pointer: Ptr, end: End, by: By, line: u32) {
-        self.note_end(
-            pointer,
-            Ended {
-                end,
-                by,
-                at: ShortLine::of(line),
-                had_room: false,
-            },
-        );
-    }
-
-    /// Notes how a cell's life ended, given the pointer that named the cell; does nothing for null.
-    fn note_end(&mut self, pointer: Ptr, ended: Ended) {
-        if pointer.number != 0 {
-            self.lives.end(pointer, ended);
-            self.course.end(pointer, self.steps, ended.end);
-        }
-    }
-
-    /// Records which cells are leaks at the end of the run.
-    pub fn see_outcome(&mut self, outcome: &Outcome) {
-        if let Outcome::Ended { leaks, .. } = outcome {
-            for leak in leaks.as_slice() {
-                self.course.mark_leak(leak.number);
-            }
+            self.history.end_life(pointer, end, by, line);
         }
     }
 }

@@ -1,7 +1,7 @@
 -- What a watched run is: the run that its parameters make, whatever is kept of it.
 use Rattle.std.specs.Prelude.{◌≡◌}
 use Rattle.wb_history.specs.declared.parameters.RunParameters.{RunParameters}
-use Rattle.wb_history.specs.declared.watch.WatchedRun.{WatchedRun}
+use Rattle.wb_history.specs.declared.runs.WatchedRun.{WatchedRun}
 use Rattle.wb_tree.specs.declared.script.Script.{Script}
 use Rattle.wb_meaning.specs.Run.{run}
 

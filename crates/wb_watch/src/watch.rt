@@ -1,79 +1,25 @@
 //! A run that is watched, one machine turn after another.
 
 ghost use Rattle.std.specs.Prelude.{◌≡◌, ◌≤◌, false, IfOk, IfSome, IsTrue};
-ghost use Rattle.wb_history.specs.Watched.{IsWatchedRun};
 ghost use Rattle.wb_machine.specs.Seen.{seen_at_start, whole_run_of};
 ghost use Rattle.wb_machine.specs.Turns.{IsSameRun};
 ghost use Rattle.wb_tree.specs.Sound.{is_script};
+ghost use Rattle.wb_watch.specs.Watched.{IsWatchedRun};
 
-use crate::attempts::{Attempts, Keep};
-use crate::checks::{Counted, counted_by};
-use crate::parameters::RunParameters;
-use crate::pointer_faults::{PointerFault, pointer_fault};
+use crate::attempts::see_newest;
+use crate::checks::counted_by;
+use crate::pointer_faults::pointer_fault;
 use crate::quiet::is_quiet;
+use crate::raised::raised_by;
 use crate::statements::{Ahead, last_read};
-use crate::turns::History;
-use crate::values::{Meant, values_of};
+use crate::turns::Watcher;
+use crate::values::values_of;
 use std::alloc::{AllocError, Global};
 use wb_basics::limits::LARGEST_BUDGET;
 use wb_basics::memory::NoMemory;
-use wb_heap_model::heap::Ptr;
-use wb_machine::{Machine, Raised, Raiser, RunFault, Turn};
-use wb_meaning::run::Outcome;
-use wb_tree::script::{Script, Statement};
-
-/// What ended a run.
-pub struct EndOfRun<'a> {
-    /// The panic that ended the run; `None` if none did.
-    pub raised: Option<Raised>,
-    /// The statement that was begun last.
-    pub statement: Option<&'a Statement>,
-    /// The pointer, the values or the cells that the panic is about; each is `None` if the panic is about no such thing.
-    pub pointer: Option<PointerFault>,
-    pub values: Option<Meant>,
-    pub counted: Option<Counted>,
-    /// The cell whose text the last statement edits, or else what is named by the pointer that it reads; null if there is none.
-    pub names: Ptr,
-    /// The lines from `main` down to the line that is to be named for the panic; empty without a panic.
-    pub path: Vec<u32>,
-}
-
-/// Written by hand, so that dropping such a value is a single call in a proof. Only this function goes over
-/// the fields.
-impl Drop for EndOfRun<'_> {
-    fn drop(self) {
-        let EndOfRun {
-            raised: _,
-            statement: _,
-            pointer: _,
-            values: _,
-            counted: _,
-            names: _,
-            path: _,
-        } = self;
-    }
-}
-
-/// A run that is over, and what happened in it.
-pub struct WatchedRun<'a> {
-    pub parameters: RunParameters,
-    pub outcome: Outcome,
-    pub history: History<'a>,
-    pub end: EndOfRun<'a>,
-}
-
-/// Written by hand, so that dropping such a value is a single call in a proof. Only this function goes over
-/// the fields.
-impl Drop for WatchedRun<'_> {
-    fn drop(self) {
-        let WatchedRun {
-            parameters: _,
-            outcome: _,
-            history: _,
-            end: _,
-        } = self;
-    }
-}
+use wb_history::{Attempts, EndOfRun, History, Keep, RunParameters, WatchedRun};
+use wb_machine::{Machine, RunFault, Turn};
+use wb_tree::script::Script;
 
 /// Runs the script once with these parameters, and keeps what explanations name and what `keep` adds; `None` if no heap may have this
 /// shape. The run ends as the definitions say, but nothing is promised about what is kept. The only error is that memory
@@ -157,21 +103,22 @@ fn see_run<'a>(
 ) -> Result<Seen<'a>, NoMemory>
     ensures { IsSameRun machine.old machine.new }
 {
-    let mut history = History::new(alloc, script, parameters.rule.try_copy()?, keep)?;
-    let end = see_turns(alloc, machine, &mut history, parameters.budget)?;
+    let mut watcher = Watcher::new(alloc, script, parameters.rule.try_copy()?, keep)?;
+    let end = see_turns(alloc, machine, &mut watcher, parameters.budget)?;
+    let history = watcher.into_history();
     Ok(Seen { history, end })
 }
 
 fn see_turns<'a>(
     alloc: Global,
     machine: &mut Machine<'a>,
-    history: &mut History<'a>,
+    watcher: &mut Watcher<'a>,
     budget: u32,
 ) -> Result<EndOfRun<'a>, NoMemory>
     ensures { IsSameRun machine.old machine.new }
 {
-    watch(machine, history, budget)?;
-    Ok(end_of(alloc, machine, history)?)
+    watch(machine, watcher, budget)?;
+    Ok(end_of(alloc, machine, &mut watcher.history)?)
 }
 
 /// How much of a run is to be watched.
@@ -234,9 +181,9 @@ fn watch_some<'a>(
         if is_reached(attempts, until) || machine.step()? == Turn::Ended {
             break;
         }
-        attempts.see_newest(machine)?;
+        see_newest(attempts, machine)?;
     }
-    attempts.see_newest(machine)?;
+    see_newest(attempts, machine)?;
     Ok(())
 }
 
@@ -250,40 +197,40 @@ fn is_reached(attempts: &Attempts<'_>, until: Until) -> bool {
 /// Lets the machine take its turns: at most one for each step of the budget, plus the first turn and the turn that ends the run.
 fn watch<'a>(
     machine: &mut Machine<'a>,
-    history: &mut History<'a>,
+    watcher: &mut Watcher<'a>,
     budget: u32,
 ) -> Result<(), NoMemory>
     ensures { IsSameRun machine.old machine.new }
 {
     for _ in 0..=budget.saturating_add(1) {
-        if watch_turn(machine, history)? == Turn::Ended {
+        if watch_turn(machine, watcher)? == Turn::Ended {
             break;
         }
     }
-    history.see_end(machine)?;
+    watcher.see_end(machine)?;
     Ok(())
 }
 
 /// Lets the machine take its next turn, and keeps what happens.
-fn watch_turn<'a>(machine: &mut Machine<'a>, history: &mut History<'a>) -> Result<Turn, NoMemory>
+fn watch_turn<'a>(machine: &mut Machine<'a>, watcher: &mut Watcher<'a>) -> Result<Turn, NoMemory>
     ensures { IsSameRun machine.old machine.new }
 {
     match machine.next_statement() {
         Some(statement) if is_quiet(statement) => {
             let turn = machine.step()?;
-            history.see_quiet(machine)?;
+            watcher.see_quiet(machine)?;
             Ok(turn)
         }
         Some(statement) => {
             let ahead = Ahead::with(machine, statement);
             let turn = machine.step()?;
-            history.see_begun(machine, &ahead)?;
+            watcher.see_begun(machine, &ahead)?;
             Ok(turn)
         }
         None => {
-            history.go_on()?;
+            watcher.go_on()?;
             let turn = machine.step()?;
-            history.see_other(machine)?;
+            watcher.see_other(machine)?;
             Ok(turn)
         }
     }
@@ -295,9 +242,9 @@ fn end_of<'a>(
     machine: &Machine<'a>,
     history: &mut History<'a>,
 ) -> Result<EndOfRun<'a>, AllocError> {
-    let raised = machine.raised_panic();
+    let raised = raised_by(machine);
     let path = match raised {
-        Some(raised) => path_to(raised, history)?,
+        Some(raised) => history.path_to(raised)?,
         None => 0,
     };
     let counted = counted_by(machine, alloc)?;
@@ -310,14 +257,4 @@ fn end_of<'a>(
         names: last_read(machine),
         path: history.calls.lines_of(path)?,
     })
-}
-
-/// The call path of the line that is to be named for a panic.
-fn path_to(raised: Raised, history: &mut History<'_>) -> Result<u32, AllocError> {
-    match raised.raiser {
-        Raiser::Statement | Raiser::Holder => history.last_path(),
-        Raiser::TrapEnd => history.calls.path(raised.depth),
-        Raiser::MainEnd => history.calls.path(1),
-        Raiser::Item | Raiser::Release => history.outside_path(),
-    }
 }
