@@ -32,7 +32,7 @@ pub fn unlooked_result(
     }
     let name = page.word(held, 1);
     let call = call_with(page, page.word(callee.line, 1), name, popped, run)?;
-    if is_looked_at(page, call, popped) {
+    if is_looked_at(page, call, popped) || !returns_null(page, maker.line, run) {
         return None;
     }
     Some(Unlooked {
@@ -52,6 +52,36 @@ fn last_failed<'a>(run: &WatchedRun<'a>) -> Option<Maker<'a>> {
         }
     }
     failed
+}
+
+/// Whether a body, after the attempt of the line `failed` gave null, returns nothing, or the pointer that became null: the next line that
+/// returns says so, and no line between the two gives this pointer another value.
+fn returns_null(page: &ScriptPage<'_>, failed: u32, run: &WatchedRun<'_>) -> bool {
+    let (bodies, name) = (&run.history.bodies, page.word(failed, 1));
+    let body = bodies.body_of(failed);
+    for at in failed.saturating_add(1)..=page.lines.count() {
+        if bodies.body_of(at) != body {
+            return false;
+        }
+        let word = page.word(at, 1);
+        match page.word(at, 0) {
+            "return" => return word.is_empty() || word == name,
+            "alloc"
+            | "allocl"
+            | "new"
+            | "newleave"
+            | "hnew"
+            | "hnewl"
+            | "realloc"
+            | "reallocl"
+            | "hrealloc"
+            | "set"
+            | "callto"
+                if word == name => return false,
+            _ => {}
+        }
+    }
+    false
 }
 
 /// The last `callto` of a procedure with the pointer `name`, above the line `popped` and in the same body; `None` if there is none.
