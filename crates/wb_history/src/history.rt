@@ -16,6 +16,7 @@ use crate::raiser::{Raised, Raiser};
 use crate::statements::NULL;
 use crate::traps::Traps;
 use crate::views::Views;
+use crate::word_uses::WordUses;
 use crate::writes::Writes;
 use std::alloc::{AllocError, Global};
 use wb_heap_model::heap::{Ptr, Rule};
@@ -42,6 +43,7 @@ pub struct History<'a> {
     pub marks: Marks,
     pub views: Views,
     pub writes: Writes,
+    pub word_uses: WordUses,
     pub calls: Calls<'a>,
     pub bodies: Bodies,
     pub course: Course,
@@ -68,6 +70,7 @@ impl Drop for History<'_> {
             marks: _,
             views: _,
             writes: _,
+            word_uses: _,
             calls: _,
             bodies: _,
             course: _,
@@ -97,6 +100,7 @@ impl<'a> History<'a> {
             marks: Marks::new(alloc),
             views: Views::new(alloc),
             writes: Writes::new(alloc),
+            word_uses: WordUses::new(alloc),
             calls: Calls::new(alloc)?,
             bodies: Bodies::of(alloc, script)?,
             course: Course::new(alloc, keep == Keep::Drawn),

@@ -37,7 +37,8 @@ impl ItemOnStack {
     }
 }
 
-/// An item that a line took off the stack, though another body had pushed the item, or had been called in between.
+/// An item that a line took off the stack, though the item was there when the line's body began, or another body left it, or another body was
+/// called in between.
 #[derive(Clone, Copy, Debug, PartialEq, Eq)]
 pub struct Taken {
     pub line: u32,
@@ -50,7 +51,8 @@ pub struct Taken {
 #[derive(Drop)]
 pub struct Items {
     items: Vec<ItemOnStack>,
-    /// The last item of a calling body that was taken off, and the last item left by an ended body that was taken off; else `None`.
+    /// The last item that was taken off by a body that had begun after the push, and the last item left by an ended body that was taken off;
+    /// else `None`.
     pub of_caller: Option<Taken>,
     pub of_callee: Option<Taken>,
     /// The last item that a body pushed and took off itself, after it had called a body that left no item; `None` if there is none.

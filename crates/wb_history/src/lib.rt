@@ -11,6 +11,7 @@
 //! - `Marks`: the heap marks that are open, with their lines and the leaves that skipped their ends;
 //! - `Views`: which cell's text each view shows;
 //! - `Writes`: for each line that writes a pointer, what the line wrote last;
+//! - `WordUses`: for each line that stores or loads a word of a cell, what the line stored or loaded last;
 //! - `Calls`: which bodies run, and the call paths to pushed items, to leaves and to the run's end;
 //! - `Course`: if a picture is wanted, each part of each cell's life, and a few numbers over time.
 //!
@@ -45,6 +46,7 @@ mod statements;
 mod traps;
 mod values;
 mod views;
+mod word_uses;
 mod writes;
 
 pub use attempts::{AttemptMade, Attempts, FailedCounts, Keep};
@@ -70,4 +72,5 @@ pub use statements::{NULL, Pointers, Variable, edited_by, pointers_of, target_of
 pub use traps::{Leave, OpenTrap, Traps};
 pub use values::{Meant, Values};
 pub use views::Views;
+pub use word_uses::{WordUse, WordUses};
 pub use writes::{NullOf, PointerWrite, Writes};

@@ -92,6 +92,21 @@ impl Writes {
         self.copies <= MOST_COPIES
     }
 
+    /// Returns the newest write that gave a field this cell, among the last writes of all lines; `None` if there is none.
+    pub fn newest_of_field(&self, cell: Ptr) -> Option<PointerWrite> {
+        let mut newest: Option<PointerWrite> = None;
+        for write in self.by_line.as_slice() {
+            let Some(write) = write else {
+                continue;
+            };
+            let is_newer = newest.is_none_or(|it| it.step <= write.step);
+            if is_newer && write.names == cell && write.owner.number != 0 {
+                newest = Some(*write);
+            }
+        }
+        newest
+    }
+
     /// Returns the newest write to the same local or field as `wanted`, among the last writes of all lines; `None` if there is none.
     pub fn newest_of(&self, wanted: &PointerWrite) -> Option<PointerWrite> {
         let mut newest: Option<PointerWrite> = None;

@@ -7,7 +7,7 @@
 //!
 //! Before a machine turn, the machine says which statement the turn is to begin, and what the statement's pointers name. After the turn,
 //! the machine shows what became of these pointers' cells. So watching a turn costs a few looks at single cells, and never a look at all
-//! cells. For most statements, such as `add`, only the line is kept (`quiet`).
+//! cells. For most statements, such as `add`, only the line is kept (`quiet`), and of `store` and `load` the word as well.
 #![tactic(auto)]
 
 mod attempts;
@@ -21,6 +21,7 @@ mod turns;
 mod values;
 mod views;
 mod watch;
+mod words;
 
 pub use looks::{has_panicked, live_at};
 pub use statements::Ahead;

@@ -6,6 +6,7 @@ mod cells;
 use crate::attempts::see_newest;
 use crate::looks::has_panicked;
 use crate::statements::Ahead;
+use crate::words::word_used;
 use std::alloc::{AllocError, Global};
 use wb_heap_model::heap::{Item, Ptr, Rule};
 use wb_history::{Blocks, By, End, History, ItemOnStack, Keep, NULL};
@@ -74,12 +75,17 @@ impl<'a> Watcher<'a> {
         history
     }
 
-    /// Looks at the machine after a turn that was to begin a quiet statement. Only the line of this statement is kept.
+    /// Looks at the machine after a turn that was to begin a quiet statement. Of this statement only the line is kept, and the word of a cell
+    /// that it stored or loaded.
     pub(crate) fn see_quiet(&mut self, machine: &Machine<'a>) -> Result<(), AllocError> {
-        if machine.steps() > self.history.steps() {
+        let has_stepped = machine.steps() > self.history.steps();
+        if has_stepped {
             self.see_block(machine)?;
         }
         self.see_line(machine)?;
+        if has_stepped && let Some(word) = word_used(machine) {
+            self.history.word_uses.note(word)?;
+        }
         if self.deletions.is_empty() {
             return Ok(());
         }

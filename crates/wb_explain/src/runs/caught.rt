@@ -52,8 +52,8 @@ fn looks_at(page: &ScriptPage<'_>, leave: Leave, name: &str) -> bool {
     }
 }
 
-/// Says that the code of a leave is to be looked at, and where.
-pub fn put_look(page: &mut ScriptPage<'_>, leave: Leave) {
+/// Says that the code of a leave is to be looked at, and where. `tested` is a pointer that can be tested instead; empty if there is none.
+pub fn put_look(page: &mut ScriptPage<'_>, leave: Leave, tested: &str) {
     if let Some(trap) = leave.caught {
         let (line, at, name) = (leave.at.line, trap.line, page.word(trap.line, 1));
         let after = leave.after;
@@ -68,8 +68,14 @@ pub fn put_look(page: &mut ScriptPage<'_>, leave: Leave) {
                 "line {line} left with {code}, to the TRAP of line {at}, and line {after} only compares `{name}` with {other}: deal with each other error too, for example with an `else` that has `leaveiferror {name}`"
             ));
         }
-        page.page.write_help(format_args!(
+        page.page.begin_help();
+        page.page.write(format_args!(
             "line {line} left, to the TRAP of line {at}, and the run went on: look at `{name}` after the `end` of that `trap`, which sets it, for example with `leaveiferror {name}`"
         ));
+        if !tested.is_empty() {
+            page.page
+                .write(format_args!("; or go on where `if some {tested}` holds"));
+        }
+        page.page.end_line();
     }
 }

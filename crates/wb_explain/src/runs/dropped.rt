@@ -37,7 +37,7 @@ pub fn dropped_result<'a>(page: &ScriptPage<'a>, run: &WatchedRun<'_>) -> Option
 fn returns_pointer(page: &ScriptPage<'_>, begun: u32) -> bool {
     for line in begun.saturating_add(1)..=page.lines.count() {
         match page.word(line, 0) {
-            "proc" | "class" | "operation" => return false,
+            "proc" | "class" | "op" => return false,
             "return" if !page.word(line, 1).is_empty() => return true,
             _ => {}
         }

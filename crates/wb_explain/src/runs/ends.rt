@@ -3,6 +3,7 @@
 use crate::runs::attempts::put_refused;
 use crate::runs::blame::{class_of, line_of};
 use crate::runs::caught::{overlooked_leave, put_caught, put_look};
+use crate::runs::cures::{Cure, put_cure};
 use crate::runs::cuts::put_cut;
 use crate::runs::destroyed::{OF_OBJECT, of_item};
 use crate::runs::end_words::{CodeName, PanicName};
@@ -17,12 +18,14 @@ use crate::runs::kept::{Kept, kept_value, put_cure_of_kept, put_kept};
 use crate::runs::leaks::put_leaks;
 use crate::runs::panics::{Meaning, meaning_of, symbian_of};
 use crate::runs::paths::{put_path, put_traps};
-use crate::runs::pointers::{cure_of, is_left_null, is_out_of_order, put_fault};
+use crate::runs::pointers::{cure_of, is_left_null, is_out_of_order, member_left_null, put_fault};
 use crate::runs::room::{cure_of_room, cure_of_words, put_room};
 use crate::runs::script_page::{ScriptPage, Written};
 use crate::runs::sentences::put_values;
+use crate::runs::stored::{put_cure_of_stored, put_stored, stored_before_panic};
 use crate::runs::taken::{is_to_leave, put_cure_of_left};
 use crate::runs::told::put_life;
+use crate::runs::view_made::put_view;
 use wb_heap_model::heap::{Panic, Rule};
 use wb_history::{Ended, Leave, Life, Meant, PointerState, Raised, Raiser, Values, WatchedRun};
 use wb_meaning::run::Outcome;
@@ -163,9 +166,11 @@ fn put_way(page: &mut ScriptPage<'_>, line: u32, raised: Raised, run: &WatchedRu
     if !has_two {
         put_item_meant(page, line, raised, run)?;
     }
+    put_view(page, line, run)?;
     put_room(page, run)?;
     let kept = kept_value(page, line, run)?;
     put_kept(page, kept, run)?;
+    put_stored(page, stored_before_panic(page, line, run))?;
     put_items(page, raised, run)?;
     match &run.end.counted {
         Some(counted) => put_counted(page, counted, run),
@@ -201,23 +206,28 @@ fn life_of(raised: Raised, run: &WatchedRun<'_>) -> Option<Life> {
     }
 }
 
-/// What to do about a panic; empty if there is no more to say.
-fn help_of(page: &ScriptPage<'_>, line: u32, raised: Raised, run: &WatchedRun<'_>) -> &'static str {
+/// What to do about a panic.
+fn help_of(page: &ScriptPage<'_>, line: u32, raised: Raised, run: &WatchedRun<'_>) -> Cure {
     if let Some(counted) = &run.end.counted {
-        return cure_of_check(page, counted, run);
+        return Cure::Words(cure_of_check(page, counted, run));
     }
     match run.end.pointer {
         Some(fault) => cure_of(page, run, line, fault),
         None if raised.panic == Panic::POP_BELOW_TRAP => cure_of_below(page, run),
-        None if raised.panic == Panic::ANOTHER_ITEM_ON_TOP => cure_of_another(run),
-        None if raised.panic == Panic::TOO_LONG => cure_of_room(run),
         None if raised.panic == Panic::ITEMS_LEFT => {
-            cure_of_left(raised, run).unwrap_or(meaning(raised, run).1)
+            cure_of_left(page, raised, run).unwrap_or(Cure::Words(meaning(raised, run).1))
         }
-        None if raised.panic == Panic::NUMBER_OUT_OF_RANGE => {
-            cure_of_words(page, run).unwrap_or(meaning(raised, run).1)
-        }
-        None => meaning(raised, run).1,
+        None => Cure::Words(words_of(page, raised, run)),
+    }
+}
+
+/// What to do about a panic that is about no pointer; empty if there is no more to say.
+fn words_of(page: &ScriptPage<'_>, raised: Raised, run: &WatchedRun<'_>) -> &'static str {
+    match raised.panic {
+        Panic::ANOTHER_ITEM_ON_TOP => cure_of_another(run),
+        Panic::TOO_LONG => cure_of_room(run),
+        Panic::NUMBER_OUT_OF_RANGE => cure_of_words(page, run).unwrap_or(meaning(raised, run).1),
+        _ => meaning(raised, run).1,
     }
 }
 
@@ -273,9 +283,18 @@ fn put_remarks(
     if !note.is_empty() {
         page.page.write_note_text(note);
     }
+    if let Some(stored) = stored_before_panic(page, line, run) {
+        page.page.begin_help();
+        put_cure_of_stored(page, stored);
+        page.page.end_line();
+        return Ok(());
+    }
     let kept = kept_value(page, line, run)?;
     match look_of(page, line, kept, run) {
-        Some(leave) => put_look(page, leave),
+        Some(leave) => {
+            let tested = member_left_null(page, line, run);
+            put_look(page, leave, tested);
+        }
         None => put_help(page, line, raised, kept, run),
     }
     Ok(())
@@ -317,9 +336,7 @@ fn put_help(
         return put_cure_of_left(page, body, run);
     }
     let help = help_of(page, line, raised, run);
-    if !help.is_empty() {
-        page.page.write_help_text(help);
-    }
+    put_cure(page, help);
 }
 
 /// Whether lines that a leave skipped may have led to a panic, because those lines would have made something, or made something longer.

@@ -2,10 +2,13 @@
 //! item on top.
 
 use crate::runs::counts::{Many, of_one_or_more};
+use crate::runs::cures::Cure;
 use crate::runs::panics::Meaning;
 use crate::runs::paths::{AfterLine, body_name};
 use crate::runs::script_page::{ScriptPage, Written};
-use crate::runs::taken::{Then, cure_of_off, cure_of_taken, put_item_off, put_left, put_of_caller};
+use crate::runs::taken::{
+    Then, cure_of_off, cure_of_taken, leaves_item, put_item_off, put_left, put_of_caller,
+};
 use wb_heap_model::heap::Panic;
 use wb_history::{ItemOnStack, Origin, Raised, Raiser, Stay, WatchedRun};
 
@@ -86,11 +89,11 @@ pub fn put_items(page: &mut ScriptPage<'_>, raised: Raised, run: &WatchedRun<'_>
 }
 
 /// What to do if more items are to be popped than were pushed since the innermost TRAP began.
-pub fn cure_of_below(page: &ScriptPage<'_>, run: &WatchedRun<'_>) -> &'static str {
+pub fn cure_of_below(page: &ScriptPage<'_>, run: &WatchedRun<'_>) -> Cure {
     match (items_below(run), run.history.items.of_caller) {
         (_, Some(_)) => cure_of_taken(page, run),
-        (0, None) => cure_of_off(page, run),
-        _ => "items of an outer TRAP are popped outside the inner one",
+        (0, None) => Cure::Words(cure_of_off(page, run)),
+        _ => Cure::Words("items of an outer TRAP are popped outside the inner one"),
     }
 }
 
@@ -132,14 +135,7 @@ fn put_pushed(
     let (line, bodies) = (item.pushed.line, &run.history.bodies);
     if depth > run.end.path.len() {
         let name = body_name(page, line, run);
-        let last = match item.left {
-            Some(body) if bodies.body_of(body.last) == bodies.body_of(line) => body.last,
-            _ => run
-                .history
-                .calls
-                .last_line_of(u32::try_from(depth).unwrap_or(0), item.pushed.step),
-        };
-        let end = AfterLine(last);
+        let end = AfterLine(last_of(item, u32::try_from(depth).unwrap_or(0), run));
         return page.mark_new(
             line,
             1,
@@ -158,6 +154,15 @@ fn put_pushed(
             )
         }
         _ => page.mark_new(line, 1, "this item was pushed here and not popped"),
+    }
+}
+
+/// The last line of the body, at this depth, that pushed an item and has ended; 0 if this line isn't known.
+fn last_of(item: ItemOnStack, depth: u32, run: &WatchedRun<'_>) -> u32 {
+    let bodies = &run.history.bodies;
+    match item.left {
+        Some(body) if bodies.body_of(body.last) == bodies.body_of(item.pushed.line) => body.last,
+        _ => run.history.calls.last_line_of(depth, item.pushed.step),
     }
 }
 
@@ -269,17 +274,61 @@ fn is_newest_of_failure(run: &WatchedRun<'_>) -> bool {
         && bodies.body_of(it.maker.line) == body)
 }
 
-/// What to do about items that are left when a TRAP or `main` ends, if a line took off an item that an ended body had left, or if the
-/// newest item was pushed at least two calls deeper than the body in which the run ended. `None` otherwise.
-pub fn cure_of_left(raised: Raised, run: &WatchedRun<'_>) -> Option<&'static str> {
-    let newest = items_left(raised, run).last()?;
+/// What to do about items that are left when a TRAP or `main` ends, if a body that had pushed the newest item came to its end: which
+/// line is the last of this body, or in general if the body was called by another body that came to its end. `None` otherwise.
+pub fn cure_of_left(page: &ScriptPage<'_>, raised: Raised, run: &WatchedRun<'_>) -> Option<Cure> {
+    let left = items_left(raised, run);
+    let newest = left.last()?;
     let ended_in = u32::try_from(run.end.path.len()).unwrap_or(u32::MAX);
-    if newest.depth < ended_in.saturating_add(2) {
+    if newest.depth < ended_in.saturating_add(1) {
         return None;
     }
-    Some(
-        "pop what a called body left, with `pop` or `popdestroy`, before each end of the body that called it, before a `return` too",
-    )
+    if newest.depth > ended_in.saturating_add(1) {
+        return Some(Cure::Words(
+            "pop what a called body left, with `pop` or `popdestroy`, before each end of the body that called it, before a `return` too",
+        ));
+    }
+    let last = last_of(*newest, newest.depth, run);
+    if last == 0 || is_to_keep(page, last, run) {
+        return None;
+    }
+    Some(Cure::ItemsKept {
+        last,
+        count: count_pushed_with(*newest, left, run),
+        is_owned: may_be_owned(left, run),
+    })
+}
+
+/// Whether a body that came to its end at the line `last` is to leave an item to its caller: it returns a pointer, or its name says so.
+fn is_to_keep(page: &ScriptPage<'_>, last: u32, run: &WatchedRun<'_>) -> bool {
+    page.word(last, 0) == "return" && !page.word(last, 1).is_empty()
+        || leaves_item(body_name(page, last, run))
+}
+
+/// How many of these items were pushed by the body that pushed the item `newest`.
+fn count_pushed_with(newest: ItemOnStack, left: &[ItemOnStack], run: &WatchedRun<'_>) -> u32 {
+    let (bodies, mut count) = (&run.history.bodies, 0u32);
+    let body = bodies.body_of(newest.pushed.line);
+    for item in left {
+        if item.depth == newest.depth && bodies.body_of(item.pushed.line) == body {
+            count = count.saturating_add(1);
+        }
+    }
+    count
+}
+
+/// Whether something may own what one of these items holds, other than a local of a body that has ended.
+fn may_be_owned(left: &[ItemOnStack], run: &WatchedRun<'_>) -> bool {
+    for item in left {
+        let held = match run.history.lives.find(item.pointer()) {
+            Some(life) if life.ended.is_none() => life.held,
+            _ => None,
+        };
+        if held.is_none_or(|it| it.is_field() || u32::from(it.depth) < item.depth) {
+            return true;
+        }
+    }
+    false
 }
 
 /// Says where the newest item was pushed, if there is one.

@@ -2,10 +2,13 @@
 
 use crate::runs::caught::{overlooked_leave, put_look};
 use crate::runs::dropped::{dropped_result, put_dropped};
+use crate::runs::left_cells::{put_left_cure, put_left_item};
+use crate::runs::let_go::{let_go, put_let_go};
+use crate::runs::overwritten::{put_overwritten, put_second_time};
 use crate::runs::paths::{AfterLine, before_name, put_path};
-use crate::runs::pointers::cure_of_failed;
 use crate::runs::script_page::{ScriptPage, Written};
 use crate::runs::taken::{Then, is_to_leave, put_cure_of_left, put_left};
+use crate::runs::unlooked::{put_unlooked, put_unlooked_call, unlooked_result};
 use wb_heap_model::heap::Kind;
 use wb_history::{BodyKind, By, End, Ended, Held, ItemOnStack, Leave, Life, Stay, WatchedRun};
 use wb_tree::script::{Holder, Pointer, Statement};
@@ -65,7 +68,11 @@ pub fn put_held(page: &mut ScriptPage<'_>, life: Life) -> Written {
 pub fn put_loss(page: &mut ScriptPage<'_>, life: Life, run: &WatchedRun<'_>) -> Written {
     put_held(page, life)?;
     let loss = loss_of(life, run);
+    if let Loss::Overwritten(line) = loss {
+        put_second_time(page, line, life, run)?;
+    }
     put_item(page, loss, life, run)?;
+    put_unlooked_call(page, unlooked_result(page, life, run))?;
     if let Loss::OwnerGone(owner, ended) = loss
         && ended.end != End::Deleted
         && ended.by != By::Line
@@ -93,12 +100,20 @@ fn put_item(page: &mut ScriptPage<'_>, loss: Loss, life: Life, run: &WatchedRun<
             0,
             "its item, still on the cleanup stack, was pushed here",
         )?;
+    } else if let Loss::Left(_) = loss
+        && popped == 0
+    {
+        put_left_item(page, life, run)?;
     } else if popped == 0 {
         page.mark_new(
             pushed,
             0,
             "its item was pushed here, and the operation didn't free the cell",
         )?;
+    } else if let Loss::Left(_) = loss
+        && let Some(let_go) = let_go(page, life, run)
+    {
+        put_let_go(page, let_go)?;
     } else if is_popped_elsewhere(life, run) {
         page.mark_new(
             popped,
@@ -131,8 +146,8 @@ fn left_with(page: &ScriptPage<'_>, loss: Loss, life: Life, run: &WatchedRun<'_>
     }
 }
 
-/// Whether one body pushed the item of a cell, and another body popped it.
-fn is_popped_elsewhere(life: Life, run: &WatchedRun<'_>) -> bool {
+/// Returns whether one body pushed the item of a cell, and another body popped it.
+pub fn is_popped_elsewhere(life: Life, run: &WatchedRun<'_>) -> bool {
     let bodies = &run.history.bodies;
     let (popped, pushed) = (life.popped.number(), life.pushed.number());
     popped != 0 && bodies.body_of(popped) != bodies.body_of(pushed)
@@ -146,6 +161,11 @@ fn put_cure(page: &mut ScriptPage<'_>, loss: Loss, life: Life, run: &WatchedRun<
     };
     if let Some(body) = left_with(page, loss, life, run) {
         return put_cure_of_left(page, body, run);
+    }
+    if let Loss::OutOfScope(_) | Loss::StillNamed = loss
+        && let Some(unlooked) = unlooked_result(page, life, run)
+    {
+        return put_unlooked(page, unlooked);
     }
     match loss {
         Loss::Overwritten(line) => put_overwritten(page, line, name, life.kind, run),
@@ -213,7 +233,7 @@ fn put_still_named(page: &mut ScriptPage<'_>, life: Life, run: &WatchedRun<'_>) 
     page.page.write(format_args!("{what} before {end}, or let what owns it {release} it"));
     page.page.end_line();
     if let Some(leave) = leave {
-        put_look(page, leave);
+        put_look(page, leave, "");
     }
 }
 
@@ -236,27 +256,8 @@ fn instead_of_plain(by: By) -> &'static str {
     }
 }
 
-/// Says which line overwrote the pointer of a cell. If an attempt to reallocate failed at this line, says instead what to do about that.
-fn put_overwritten(
-    page: &mut ScriptPage<'_>,
-    line: u32,
-    name: &str,
-    kind: Kind,
-    run: &WatchedRun<'_>,
-) {
-    match cure_of_failed(run, line) {
-        Some(cure) => page.page.write_help_text(cure),
-        None => {
-            let release = release_of(kind);
-            page.page.write_help(format_args!(
-                "line {line} gave `{name}` another value: {release} before that"
-            ))
-        }
-    }
-}
-
-/// How a cell of this kind is released.
-fn release_of(kind: Kind) -> &'static str {
+/// Returns how a cell of this kind is released.
+pub fn release_of(kind: Kind) -> &'static str {
     match kind {
         Kind::Object(_) => "`delete` the object",
         _ => "free the cell",
@@ -316,27 +317,6 @@ fn returns(run: &WatchedRun<'_>, held: Held) -> bool {
         }
         _ => false,
     }
-}
-
-/// Says which line left, and what to do about the cell's item.
-fn put_left_cure(page: &mut ScriptPage<'_>, leave: Leave, life: Life, run: &WatchedRun<'_>) {
-    page.page.begin_help();
-    page.page.write(format_args!("line {} left", leave.at.line));
-    if let Some(trap) = leave.caught {
-        page.page
-            .write(format_args!(", to the TRAP of line {},", trap.line));
-    }
-    page.page
-        .write_text(match (life.popped.is_some(), life.pushed.is_some()) {
-            (true, _) if is_popped_elsewhere(life, run) =>
-                " when its item was off the cleanup stack: pop that only when the cell has another owner; `popcheck` makes sure that no other item comes off",
-            (true, _) =>
-                " when its item was off the cleanup stack: pop that only when the cell has another owner",
-            (false, true) => " and ran the operation of its item: let that free the cell",
-            (false, false) =>
-                " while no item held the cell: push it before that, and pop the item when it is freed or has another owner",
-        });
-    page.page.end_line();
 }
 
 /// The name of an object's class.

@@ -1,10 +1,13 @@
 //! What is said about the pointer that a panic is about: that the pointer is null, or what became of its cell, and what to do.
 
+use crate::runs::cures::Cure;
 use crate::runs::destroyed::of_item_without_cell;
 use crate::runs::kept::name_of;
-use crate::runs::panics::{CHECK_FIRST, CHECK_IN_DESTRUCTOR};
+use crate::runs::owners::{cure_of_leave, cure_of_two_owners};
+use crate::runs::panics::CHECK_FIRST;
 use crate::runs::script_page::ScriptPage;
 use crate::runs::taken::{LEFT_NONE, cure_of_taken, destroyed_after_callee, taken_with};
+use crate::runs::whole::cure_in_destructor;
 use wb_history::{
     AttemptMade, BodyKind, By, End, Ended, Life, PointerFault, PointerState, WatchedRun,
     is_same_field, is_same_pointer, target_of,
@@ -66,21 +69,23 @@ pub fn cure_of(
     run: &WatchedRun<'_>,
     line: u32,
     fault: PointerFault,
-) -> &'static str {
+) -> Cure {
     match fault.state {
         PointerState::Null => match run.history.bodies.body_of(line).kind {
-            BodyKind::Destructor => CHECK_IN_DESTRUCTOR,
-            BodyKind::Operation => CHECK_FIRST,
+            BodyKind::Destructor => cure_in_destructor(page, run),
+            BodyKind::Operation => Cure::Words(CHECK_FIRST),
             _ => cure_outside(run, line, fault),
         },
-        PointerState::Gone(life) if fault.pointer.is_none() => cure_of_view(life),
+        PointerState::Gone(life) if fault.pointer.is_none() => Cure::Words(cure_of_view(life)),
         PointerState::Gone(life) => match life.and_then(|life| life.ended) {
-            Some(ended) if is_out_of_order(run, line, fault, ended) => {
-                "the cleanup stack destroys its newest item first: push what a destructor or an operation uses before the item that uses it"
+            Some(ended) if is_out_of_order(run, line, fault, ended) => Cure::Words(
+                "the cleanup stack destroys its newest item first: push what a destructor or an operation uses before the item that uses it",
+            ),
+            Some(ended) if is_in_item(run, line, life) => {
+                Cure::Words(of_item_without_cell(Some(ended.end)).1)
             }
-            Some(ended) if is_in_item(run, line, life) => of_item_without_cell(Some(ended.end)).1,
             Some(ended) => cure_of_ended(page, run, line, fault, ended),
-            None => "set the pointer to null when its cell is freed",
+            None => Cure::Words("set the pointer to null when its cell is freed"),
         },
     }
 }
@@ -97,10 +102,10 @@ fn cure_of_view(life: Option<Life>) -> &'static str {
 }
 
 /// What to do about a null pointer, outside of destructors and operations.
-fn cure_outside(run: &WatchedRun<'_>, line: u32, fault: PointerFault) -> &'static str {
+fn cure_outside(run: &WatchedRun<'_>, line: u32, fault: PointerFault) -> Cure {
     match failed_for(run, line, fault) {
         Some(made) => cure_of_null(made),
-        None => CHECK_FIRST,
+        None => Cure::Words(CHECK_FIRST),
     }
 }
 
@@ -112,6 +117,23 @@ pub fn is_left_null(run: &WatchedRun<'_>, line: u32, fault: PointerFault) -> boo
     match failed_for(run, line, fault) {
         Some(made) => !made.maker.gives_null(),
         None => true,
+    }
+}
+
+/// Returns the name of the pointer that a panic at a line is about, if it is null and is a field or was copied from a field; empty otherwise.
+pub fn member_left_null<'a>(page: &ScriptPage<'a>, line: u32, run: &WatchedRun<'_>) -> &'a str {
+    let Some(fault) = run.end.pointer else {
+        return "";
+    };
+    let name = name_of(page, line, fault);
+    let is_copy = match fault.write {
+        Some(write) => page.word(write.line, 0) == "set" && page.word(write.line, 2).contains('.'),
+        None => false,
+    };
+    if fault.state == PointerState::Null && (is_copy || name.contains('.')) {
+        name
+    } else {
+        ""
     }
 }
 
@@ -166,7 +188,7 @@ pub fn failed_for<'a>(
 
 /// Returns what to do about a cell whose pointer became null when an attempt to reallocate failed at a line; `None` if no attempt to
 /// reallocate failed at this line.
-pub fn cure_of_failed(run: &WatchedRun<'_>, line: u32) -> Option<&'static str> {
+pub fn cure_of_failed(run: &WatchedRun<'_>, line: u32) -> Option<Cure> {
     for made in run.history.attempts.kept_attempts() {
         if made.maker.line == line
             && !made.is_granted()
@@ -181,24 +203,29 @@ pub fn cure_of_failed(run: &WatchedRun<'_>, line: u32) -> Option<&'static str> {
 }
 
 /// What to do if a failed attempt left a pointer null.
-fn cure_of_null(made: AttemptMade<'_>) -> &'static str {
+fn cure_of_null(made: AttemptMade<'_>) -> Cure {
+    let failed = made.maker.line;
     match made.maker.statement {
-        Some(Statement::New(..)) => {
-            "after `new` check with `if some`; `newleave` leaves instead of giving null"
-        }
+        Some(Statement::New(..)) => Cure::Words(
+            "after `new` check with `if some`; `newleave` leaves instead of giving null",
+        ),
         Some(Statement::Alloc(..)) => {
-            "after `alloc` check with `if some`; `allocl` leaves instead of giving null"
+            Cure::Words(
+                "after `alloc` check with `if some`; `allocl` leaves instead of giving null",
+            )
         }
         Some(Statement::NewText(..)) => {
-            "after `hnew` check with `if some`; `hnewl` leaves instead of giving null"
+            Cure::Words("after `hnew` check with `if some`; `hnewl` leaves instead of giving null")
         }
-        Some(Statement::ReallocText(..)) => {
-            "if `hrealloc` fails it gives null, and the old cell stays: let another pointer get its answer, and where that is null leave, or go on with the old text"
-        }
-        Some(Statement::Realloc(..)) => {
-            "if `realloc` fails it gives null, and the old cell stays: let another pointer get its answer, and where that is null leave, or go on with the old cell; `reallocl` leaves instead"
-        }
-        _ => CHECK_FIRST,
+        Some(Statement::ReallocText(..)) => Cure::Reallocated {
+            failed,
+            words: "fails it gives null, and the old cell stays: let another pointer get its answer, and where that is null leave, or go on with the old text",
+        },
+        Some(Statement::Realloc(..)) => Cure::Reallocated {
+            failed,
+            words: "fails it gives null, and the old cell stays: let another pointer get its answer, and where that is null leave, or go on with the old cell; `reallocl` leaves instead",
+        },
+        _ => Cure::Words(CHECK_FIRST),
     }
 }
 
@@ -208,21 +235,6 @@ fn left_owner(run: &WatchedRun<'_>, fault: PointerFault) -> Option<Ended> {
     match fault.state {
         PointerState::Gone(Some(life)) => owner_left(run, life),
         PointerState::Gone(None) | PointerState::Null => None,
-    }
-}
-
-/// Whether a field of a live object was the last pointer that was set to the cell.
-fn is_field_of_live(run: &WatchedRun<'_>, fault: PointerFault) -> bool {
-    let PointerState::Gone(Some(life)) = fault.state else {
-        return false;
-    };
-    match life.held {
-        Some(held) if held.is_field() => run
-            .history
-            .lives
-            .find(held.owner)
-            .is_some_and(|owner| owner.ended.is_none()),
-        _ => false,
     }
 }
 
@@ -247,18 +259,6 @@ pub fn frees(run: &WatchedRun<'_>, fault: PointerFault) -> bool {
     is_freed && !fault.is_owner
 }
 
-/// What to do about a cell that both its item and a field owned. If a leave deleted the cell's object, its second phase may have left: then
-/// the field must not keep the object, so the item must own the object until no line may leave any more.
-fn cure_of_two_owners(ended: Ended) -> &'static str {
-    match (ended.end, ended.by) {
-        (End::Deleted, By::Leave) => {
-            "its item and the field both own it: set the field only after the last line that may leave, and pop the item right after that"
-        }
-        _ =>
-            "its item and the field both own it: pop the item as soon as the field has got it, before the next line that may leave",
-    }
-}
-
 /// What to do about a pointer whose cell is gone. This depends on how the cell's life ended.
 fn cure_of_ended(
     page: &ScriptPage<'_>,
@@ -266,49 +266,56 @@ fn cure_of_ended(
     line: u32,
     fault: PointerFault,
     ended: Ended,
+) -> Cure {
+    match (ended.end, ended.by) {
+        (End::Moved, _) => Cure::Words(
+            "a cell that grew may have moved, and then only the result of that line names it",
+        ),
+        (_, By::PopDestroy) if taken_with(ended, run).is_some() => cure_of_taken(page, run),
+        (_, By::PopDestroy | By::Leave) if frees(run, fault) && run.history.bodies.undoes(line) => {
+            cure_of_two_owners(page, fault, ended)
+        }
+        (_, By::PopDestroy) if destroyed_after_callee(page, ended, run).is_some() => {
+            Cure::Words(LEFT_NONE)
+        }
+        (_, By::PopDestroy) => Cure::Words(
+            "`popdestroy` frees what it takes off: use `pop` if the cell is to stay, or set the pointer to null after it",
+        ),
+        (_, By::Leave) => cure_of_leave(run, line, fault, ended),
+        (_, By::Line) => Cure::Words(cure_of_line(run, line, fault, ended)),
+    }
+}
+
+/// What to do about a pointer whose cell was freed or deleted by a line.
+fn cure_of_line(
+    run: &WatchedRun<'_>,
+    line: u32,
+    fault: PointerFault,
+    ended: Ended,
 ) -> &'static str {
     let body = run.history.bodies.body_of(ended.at.number());
     let is_in_destructor = body.kind == BodyKind::Destructor;
-    match (ended.end, ended.by) {
-        (End::Moved, _) => {
-            "a cell that grew may have moved, and then only the result of that line names it"
-        }
-        (_, By::PopDestroy) if taken_with(ended, run).is_some() => cure_of_taken(page, run),
-        (_, By::PopDestroy | By::Leave) if frees(run, fault) && run.history.bodies.undoes(line) => {
-            cure_of_two_owners(ended)
-        }
-        (_, By::PopDestroy) if destroyed_after_callee(page, ended, run).is_some() => LEFT_NONE,
-        (_, By::Leave) if is_field_of_live(run, fault) => {
-            "the field that got the object last still names it: let the object's `destroy` set that field to null, or set the field only after the last line that may leave"
-        }
-        (_, By::PopDestroy) => {
-            "`popdestroy` frees what it takes off: use `pop` if the cell is to stay, or set the pointer to null after it"
-        }
-        (_, By::Leave) => {
-            "a leave destroys all items since its TRAP began, with their cells: `pop` an item as soon as its cell has another owner, and where the leave was caught neither use the pointer nor free it again"
-        }
-        (End::Deleted, By::Line) if !frees(run, fault) => {
+    match ended.end {
+        End::Deleted if !frees(run, fault) => {
             "delete the object after its last use: this line still uses it"
         }
-        (End::Freed, By::Line) if !frees(run, fault) => {
-            "free the cell after its last use: this line still uses it"
-        }
-        (_, By::Line) if is_in_destructor && ended.at.number() == line => {
+        _ if !frees(run, fault) => "free the cell after its last use: this line still uses it",
+        _ if is_in_destructor && ended.at.number() == line => {
             "two objects name it: let only one of them own it"
         }
-        (_, By::Line) if is_in_destructor && run.history.bodies.body_of(line) == body => {
+        _ if is_in_destructor && run.history.bodies.body_of(line) == body => {
             "the destructor does it twice: a cell has one owner, so let one of the two lines go, or give each field a cell of its own"
         }
-        (_, By::Line) if is_in_destructor && left_owner(run, fault).is_some() => {
+        _ if is_in_destructor && left_owner(run, fault).is_some() => {
             "its field and this pointer both owned it when the leave came: let the field get it only after the last line that may leave, and free it here where that line left"
         }
-        (_, By::Line) if is_in_destructor => {
+        _ if is_in_destructor => {
             "the destructor has done this already: leave it to one of the two"
         }
-        (End::Deleted, By::Line) => {
+        End::Deleted => {
             "set the pointer to null when its object is deleted: deleting null does nothing"
         }
-        (End::Freed, By::Line) => {
+        End::Freed | End::Moved => {
             "set the pointer to null, for example with `null`, when its cell is freed: freeing null does nothing"
         }
     }

@@ -1,6 +1,8 @@
 //! What is said about items that a body leaves to its caller, items that a body takes from its caller, and items that are popped twice.
 
 use crate::runs::counts::Many;
+use crate::runs::cures::Cure;
+use crate::runs::passed::{Passed, passed_push};
 use crate::runs::paths::body_name;
 use crate::runs::script_page::{ScriptPage, Written};
 use std::fmt;
@@ -9,36 +11,29 @@ use wb_history::{By, Ended, Life, Stay, Taken, WatchedRun};
 
 /// Returns what to do about an item that a body took from its caller. That `popcheck` helps is said only of a body that pushed an item
 /// itself: a pointer that such a body didn't push may be the pointer of its caller's item.
-pub fn cure_of_taken(page: &ScriptPage<'_>, run: &WatchedRun<'_>) -> &'static str {
-    match run.history.items.of_caller {
-        Some(taken) if passed_push(page, taken, run).is_some() => {
-            "a body takes off only as many items as it pushed itself: on the way that passes over the push, pop one item fewer"
+pub fn cure_of_taken(page: &ScriptPage<'_>, run: &WatchedRun<'_>) -> Cure {
+    let Some(taken) = run.history.items.of_caller else {
+        return Cure::Words(TAKES_ITS_OWN_CHECKED);
+    };
+    match passed_push(page, taken, run) {
+        Some(Passed { push, failed, head }) if failed != 0 => Cure::PassedPush {
+            off: taken.line,
+            push,
+            head,
+        },
+        Some(_) => Cure::Words(
+            "a body takes off only as many items as it pushed itself: on the way that passes over the push, pop one item fewer",
+        ),
+        None if taken.body.most <= taken.body.began => {
+            Cure::Words("a body takes off only as many items as it pushed itself")
         }
-        Some(Taken { body, .. }) if body.most <= body.began => {
-            "a body takes off only as many items as it pushed itself"
-        }
-        _ =>
-            "a body takes off only as many items as it pushed itself; `popcheck` makes sure that no other item comes off",
+        None => Cure::Words(TAKES_ITS_OWN_CHECKED),
     }
 }
 
-/// The last line that pushes an item above the line that took off an item of a calling body, in the same body, if this body had pushed
-/// nothing until then. `None` if there is no such line, or if the body had pushed an item, or may have done so after it had taken another.
-fn passed_push(page: &ScriptPage<'_>, taken: Taken, run: &WatchedRun<'_>) -> Option<u32> {
-    let Taken { line, body, .. } = taken;
-    if body.most != body.began || body.ended.saturating_add(1) != body.began {
-        return None;
-    }
-    let bodies = &run.history.bodies;
-    let own = bodies.body_of(line);
-    let mut push = None;
-    for at in own.line..line {
-        if matches!(page.word(at, 0), "push" | "pushobj" | "pushop") && bodies.body_of(at) == own {
-            push = Some(at);
-        }
-    }
-    push
-}
+/// What to do if a body that pushed an item took off more items than it had pushed.
+const TAKES_ITS_OWN_CHECKED: &str =
+    "a body takes off only as many items as it pushed itself; `popcheck` makes sure that no other item comes off";
 
 /// Says which line took off an item of a calling body, and how many items the line's own body began with and left. Says also which line
 /// that pushes an item was passed over before, if known.
@@ -62,7 +57,12 @@ pub fn put_of_caller(
         ),
     )?;
     match passed_push(page, taken, run) {
-        Some(push) => page.mark_new(
+        Some(Passed { push, failed, .. }) if failed != 0 => page.mark_new(
+            push,
+            0,
+            format_args!("`{name}` passed this over, since the attempt of line {failed} failed"),
+        ),
+        Some(Passed { push, .. }) => page.mark_new(
             push,
             0,
             format_args!("`{name}` passed this over, and had pushed no item before line {line}"),
@@ -92,7 +92,11 @@ pub fn put_left(
 
 /// Returns whether a body's name says that the body leaves an item to its caller: such a name ends in `lc` or `LC`.
 pub fn is_to_leave(page: &ScriptPage<'_>, body: Stay, run: &WatchedRun<'_>) -> bool {
-    let name = body_name(page, body.last, run);
+    leaves_item(body_name(page, body.last, run))
+}
+
+/// Returns whether a body of this name leaves an item to its caller.
+pub fn leaves_item(name: &str) -> bool {
     name.ends_with("lc") || name.ends_with("LC")
 }
 

@@ -30,13 +30,12 @@ impl<'a> History<'a> {
         }
     }
 
-    /// Records an item that a line took off while `depth` bodies ran: whether a calling body had pushed the item, whether an ended body had
-    /// left it, and whether a body that was called in between left no item.
+    /// Records an item that a line took off while `depth` bodies ran: whether the item had been there when the line's body began, whether an
+    /// ended body had left it, and whether a body that was called in between left no item.
     pub(crate) fn see_taken(&mut self, item: ItemOnStack, line: u32, depth: u32) {
         let pushed = item.pushed.line;
-        if item.depth < depth
-            && let Some(stay) = self.calls.stay_at(depth)
-        {
+        let was_there = self.calls.last_line_of(depth, item.pushed.step) == 0;
+        if was_there && let Some(stay) = self.calls.stay_at(depth) {
             let body = Stay {
                 ended: self.items.count(),
                 ..stay

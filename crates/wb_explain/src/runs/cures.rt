@@ -1,0 +1,126 @@
+//! What to do about a panic, or about a pointer that became null: words alone, or words about lines that a run came to.
+
+use crate::runs::kept::name_of;
+use crate::runs::script_page::ScriptPage;
+use wb_history::PointerFault;
+
+/// What to do.
+#[derive(Clone, Copy)]
+pub enum Cure {
+    /// Just this; nothing if it is empty.
+    Words(&'static str),
+    /// The line `failed` reallocates, and its attempt failed. The words follow the line's number.
+    Reallocated {
+        failed: u32,
+        words: &'static str,
+    },
+    /// The line `set` set a field to an object whose item was destroyed for a leave. The line `gone` released what the field had named
+    /// before; it is 0 if no line did.
+    FieldTooEarly {
+        set: u32,
+        gone: u32,
+    },
+    /// The field that the line `set` set to an object still named the object after a leave had deleted it.
+    FieldKept {
+        set: u32,
+    },
+    /// A leave at the line `left` destroyed the cell of a local with its item, and the line `used` then used the pointer at fault.
+    DestroyedByLeave {
+        left: u32,
+        used: u32,
+        fault: PointerFault,
+    },
+    /// The line `off` took off one item too many: the line `push` was passed over, which stands in the block of the line `head`.
+    PassedPush {
+        off: u32,
+        push: u32,
+        head: u32,
+    },
+    /// A body came to its end at the line `last`, with this many items that it had pushed. `is_owned` says whether something else may own
+    /// what they hold.
+    ItemsKept {
+        last: u32,
+        count: u32,
+        is_owned: bool,
+    },
+    /// The line `left` left when an object was whole, and the object's destructor then met a null pointer.
+    WholeObject {
+        left: u32,
+    },
+}
+
+/// Writes what to do.
+pub fn put_cure(page: &mut ScriptPage<'_>, cure: Cure) {
+    match cure {
+        Cure::Words(words) => {
+            if !words.is_empty() {
+                page.page.write_help_text(words);
+            }
+        }
+        Cure::Reallocated { failed, words } => {
+            let word = page.word(failed, 0);
+            page.page
+                .write_help(format_args!("if the `{word}` of line {failed} {words}"));
+        }
+        Cure::FieldTooEarly { set, gone } => put_too_early(page, set, gone),
+        Cure::FieldKept { set } => {
+            let name = page.word(set, 1);
+            page.page.write_help(format_args!(
+                "`{name}`, which line {set} set, still names it: set that only after the last line that may leave, or let the object's `destroy` set it to null"
+            ));
+        }
+        Cure::DestroyedByLeave { left, used, fault } => {
+            let name = name_of(page, used, fault);
+            page.page.write_help(format_args!(
+                "the leave of line {left} destroyed it with its item: where that leave was caught, neither use `{name}` nor free it again"
+            ));
+        }
+        Cure::PassedPush { off, push, head } => put_passed_push(page, off, push, head),
+        Cure::ItemsKept {
+            last,
+            count,
+            is_owned,
+        } => put_items_kept(page, last, count, is_owned),
+        Cure::WholeObject { left } => page.page.write_help(format_args!(
+            "the object was whole when line {left} left: undo there what was done by half, or do it only after that line; or check with `if some` first"
+        )),
+    }
+}
+
+fn put_too_early(page: &mut ScriptPage<'_>, set: u32, gone: u32) {
+    let name = page.word(set, 1);
+    page.page.begin_help();
+    page.page.write(format_args!("its item and the field both own it: set `{name}`"));
+    if gone != 0 {
+        let word = page.word(gone, 0);
+        page.page.write(format_args!(", and `{word}` what it named before (line {gone}),"));
+    }
+    page.page.write_text(
+        " only after the last line that may leave, and pop the item right after that",
+    );
+    page.page.end_line();
+}
+
+fn put_passed_push(page: &mut ScriptPage<'_>, off: u32, push: u32, head: u32) {
+    let word = page.word(off, 0);
+    page.page.write_help(format_args!(
+        "let line {off} take off one item fewer, and pop the item of line {push} at the end of the `if` of line {head}, with `{word} 1`: a body takes off only as many items as it pushed itself"
+    ));
+}
+
+fn put_items_kept(page: &mut ScriptPage<'_>, last: u32, count: u32, is_owned: bool) {
+    let place = match page.word(last, 0) {
+        "return" => "before the `return` of",
+        _ => "after",
+    };
+    page.page.begin_help();
+    page.page.write(format_args!(
+        "{place} line {last} pop what was pushed, with `popdestroy {count}`"
+    ));
+    if is_owned {
+        page.page.write(format_args!(", or with `pop {count}` where that has another owner"));
+    } else {
+        page.page.write_text(", since nothing else owns it");
+    }
+    page.page.end_line();
+}

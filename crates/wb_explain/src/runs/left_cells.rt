@@ -1,0 +1,121 @@
+//! What is said about a cell that a leave lost: where its item was popped, or which field let go of it, and what to do.
+
+use crate::runs::let_go::{LetGo, let_go};
+use crate::runs::losses::is_popped_elsewhere;
+use crate::runs::operations::{put_operation, put_operation_cure};
+use crate::runs::script_page::{ScriptPage, Written};
+use wb_heap_model::heap::Kind;
+use wb_history::{Leave, Life, WatchedRun};
+
+/// Says where the item of a cell was pushed that a leave lost though the item wasn't popped.
+pub fn put_left_item(page: &mut ScriptPage<'_>, life: Life, run: &WatchedRun<'_>) -> Written {
+    page.mark_new(
+        life.pushed.number(),
+        0,
+        "its item was pushed here, and the operation didn't free the cell",
+    )?;
+    put_operation(page, life.pushed.number(), run)
+}
+
+/// Says which line left, and what to do about the cell's item.
+pub fn put_left_cure(page: &mut ScriptPage<'_>, leave: Leave, life: Life, run: &WatchedRun<'_>) {
+    page.page.begin_help();
+    page.page.write(format_args!("line {} left", leave.at.line));
+    if let Some(trap) = leave.caught {
+        page.page
+            .write(format_args!(", to the TRAP of line {},", trap.line));
+    }
+    match (life.popped.is_some(), life.pushed.is_some()) {
+        (true, _) => put_popped_cure(page, leave, life, run),
+        (false, true) => put_operation_cure(page, life.pushed.number(), run),
+        (false, false) => page.page.write_text(
+            " while no item held the cell: push it before that, and pop the item when it is freed or has another owner",
+        ),
+    }
+    page.page.end_line();
+}
+
+/// Writes what to do about a cell whose item was popped before the leave.
+fn put_popped_cure(page: &mut ScriptPage<'_>, leave: Leave, life: Life, run: &WatchedRun<'_>) {
+    if let Some(let_go) = let_go(page, life, run) {
+        return put_let_go_cure(page, let_go, leave, life, run);
+    }
+    let (name, callee) = (held_name(page, life), maker_of_result(page, life, run));
+    if !callee.is_empty() {
+        let (line, push) = (
+            life.held.map_or(0, |it| it.line.number()),
+            push_of(life.kind),
+        );
+        return page.page.write(format_args!(
+            " when its item was off the cleanup stack: push the result of line {line}, with `{push} {name}`, and pop it when it has another owner; or let `{callee}` keep its item, and pop that then"
+        ));
+    }
+    page.page.write_text(
+        " when its item was off the cleanup stack: pop that only when the cell has another owner",
+    );
+    if is_popped_elsewhere(life, run) {
+        page.page
+            .write_text("; `popcheck` makes sure that no other item comes off");
+    }
+}
+
+/// Writes what to do about a cell that a field had owned and let go of before the leave.
+fn put_let_go_cure(
+    page: &mut ScriptPage<'_>,
+    let_go: LetGo,
+    leave: Leave,
+    life: Life,
+    run: &WatchedRun<'_>,
+) {
+    let (name, push) = (held_name(page, life), push_of(life.kind));
+    let until = line_of_leave(leave, life, run);
+    let LetGo { line, .. } = let_go;
+    page.page.write(format_args!(
+        " while no item and no field held the cell: push it before line {until}, with `{push} {name}`, and pop it when its new owner has it; or give it to the new owner before line {line}"
+    ));
+}
+
+/// The name of the pointer that was last set to a cell; empty if it isn't known.
+fn held_name<'a>(page: &ScriptPage<'a>, life: Life) -> &'a str {
+    match life.held {
+        Some(held) => page.word(held.line.number(), 1),
+        None => "",
+    }
+}
+
+/// The line that pushes a cell of this kind, by its first word.
+fn push_of(kind: Kind) -> &'static str {
+    match kind {
+        Kind::Object(_) => "pushobj",
+        Kind::Raw | Kind::Text | Kind::Cleanup => "push",
+    }
+}
+
+/// The line by which the leave came about, in the body whose local was last set to the cell; the line that left if there is none.
+fn line_of_leave(leave: Leave, life: Life, run: &WatchedRun<'_>) -> u32 {
+    let bodies = &run.history.bodies;
+    let held = life.held.map_or(0, |it| it.line.number());
+    if let Ok(lines) = run.history.calls.lines_of(leave.at.path) {
+        for at in lines.as_slice() {
+            if bodies.body_of(*at) == bodies.body_of(held) {
+                return *at;
+            }
+        }
+    }
+    leave.at.line
+}
+
+/// The name of the procedure that made a cell, pushed it, popped it, and returned it to the `callto` that set the cell's last pointer; empty
+/// if there is no such procedure.
+fn maker_of_result<'a>(page: &ScriptPage<'a>, life: Life, run: &WatchedRun<'_>) -> &'a str {
+    let (bodies, popped) = (&run.history.bodies, life.popped.number());
+    let held = life.held.map_or(0, |it| it.line.number());
+    let body = bodies.body_of(popped);
+    let name = page.word(held, 2);
+    let is_result = page.word(held, 0) == "callto" && page.word(body.line, 1) == name;
+    if is_result && bodies.body_of(life.pushed.number()) == body {
+        name
+    } else {
+        ""
+    }
+}
