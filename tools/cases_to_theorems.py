@@ -5,8 +5,8 @@ definitions must give for it, and each case one theorem, proved by computing. Th
 files of their own, in `proofs/WorkedCases` of `wb_worked`; check that crate then. With `--compare` they are only compared with what would
 be written.
 
-A theorem that fails means that the case and the definitions differ. Where a word of a script, a report or the arguments isn't known, this ends
-with the name of the case and what Python says of the word.
+A theorem that fails means that the case and the definitions differ. Where a word of a script, a report or the arguments isn't known, this
+ends with the name of the case and what Python says of the word.
 """
 
 import argparse

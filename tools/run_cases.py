@@ -141,7 +141,7 @@ def with_answer(case: Case, answer: Answer) -> Case:
 
 
 def fault_of(case: Case, answer: Answer) -> str | None:
-    """The lines by which the case that an answer makes differs from the other, as they stand in their files; not all if they are very many."""
+    """The lines by which the case that an answer makes differs from the other, as they stand in files; not all if they are very many."""
     answered = with_answer(case, answer)
     if answered == case:
         return None
