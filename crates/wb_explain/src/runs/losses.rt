@@ -72,7 +72,9 @@ pub fn put_loss(page: &mut ScriptPage<'_>, life: Life, run: &WatchedRun<'_>) -> 
         put_second_time(page, line, life, run)?;
     }
     put_item(page, loss, life, run)?;
-    put_unlooked_call(page, unlooked_result(page, life, run))?;
+    if is_unlooked(loss) {
+        put_unlooked_call(page, unlooked_result(page, life, run))?;
+    }
     if let Loss::OwnerGone(owner, ended) = loss
         && ended.end != End::Deleted
         && ended.by != By::Line
@@ -155,18 +157,29 @@ pub fn is_popped_elsewhere(life: Life, run: &WatchedRun<'_>) -> bool {
 
 /// Says what to do about a cell that was lost.
 fn put_cure(page: &mut ScriptPage<'_>, loss: Loss, life: Life, run: &WatchedRun<'_>) {
+    if let Some(body) = left_with(page, loss, life, run) {
+        return put_cure_of_left(page, body, run);
+    }
+    match unlooked_result(page, life, run) {
+        Some(unlooked) if is_unlooked(loss) => put_unlooked(page, unlooked),
+        _ => put_cure_of_loss(page, loss, life, run),
+    }
+}
+
+/// Whether a line that looked at the result of a call might have kept a cell from being lost in this way.
+fn is_unlooked(loss: Loss) -> bool {
+    match loss {
+        Loss::OutOfScope(_) | Loss::StillNamed => true,
+        _ => false,
+    }
+}
+
+/// Says what to do about the way in which a cell was lost.
+fn put_cure_of_loss(page: &mut ScriptPage<'_>, loss: Loss, life: Life, run: &WatchedRun<'_>) {
     let name = match life.held {
         Some(held) => page.word(held.line.number(), 1),
         None => "",
     };
-    if let Some(body) = left_with(page, loss, life, run) {
-        return put_cure_of_left(page, body, run);
-    }
-    if let Loss::OutOfScope(_) | Loss::StillNamed = loss
-        && let Some(unlooked) = unlooked_result(page, life, run)
-    {
-        return put_unlooked(page, unlooked);
-    }
     match loss {
         Loss::Overwritten(line) => put_overwritten(page, line, name, life.kind, run),
         Loss::OwnerGone(_, ended) if ended.end != End::Deleted => {
