@@ -1,1 +1,3 @@
+pub mod ForkLemmas
+pub mod SetHeaps
 pub mod TableLemmas

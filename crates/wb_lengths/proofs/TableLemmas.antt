@@ -1,6 +1,5 @@
 -- A table of lengths grows at its front, and its first bad range begins at the least length whose run leaks or panics.
 use Rattle.std.proofs.Common.{◌≡◌, ◌⊎◌, inl, inr, ℕ, ◌+◌, ◌-◌, ◌<◌, ◌≤◌, arith, Bool, true, false, List, [], ◌∷◌, refl, sym, ◌∙◌, ap, subst, Some, None, cond}
-use Rattle.std.specs.Prelude.{slice_get}
 use Rattle.std.proofs.lemmas.Bool.{cases_lt, false≢true}
 use Rattle.wb_heap_model.specs.declared.heap.Shape.{Shape}
 use Rattle.wb_runs.specs.declared.lengths.LengthRange.{LengthRange}
@@ -9,11 +8,14 @@ use Rattle.wb_meaning.specs.declared.run.RunResult.{RunResult}
 use Rattle.wb_runs.specs.declared.run_end.RunEnd.{RunEnd}
 use Rattle.wb_tree.specs.declared.script.Script.{Script}
 use Rattle.wb_runs.specs.Lengths.{end_in, run_in, IsLeastBadLength, IsLengthTable, IsNoBadLength, IsTableFrom}
-use Rattle.wb_heap_model.specs.Rises.{highest_end}
+use Rattle.wb_heap_model.specs.Reported.{end_of_attempt}
+use Rattle.wb_heap_model.specs.Rises.{end_of_line, granted_end, highest_end}
 use Rattle.wb_runs.specs.RunEnds.{end_of, is_bad_end, is_cut_end}
-use Rattle.wb_runs.proofs.LengthLemmas.{heap-grants-within, heap-within, heaps-same}
+use Rattle.wb_runs.proofs.LengthLemmas.{heap-within, heaps-same}
+use Rattle.wb_runs.proofs.SizeLemmas.{end_within}
 use Rattle.wb_runs.proofs.LengthTables.{bad-end, cut-end, from_within}
 use Rattle.wb_lengths.specs.Lengths.{first_bad, has_cut, IsCutNowhere, IsCutSomewhere}
+use Rattle.wb_lengths.specs.SetHeaps.{TellsRunIn}
 use Rattle.wb_lengths.specs.Walk.{range, GrantsWithin, IsPutBefore, IsRightFrom}
 
 module _ (end_at : ℕ → RunEnd) (most : ℕ) where
@@ -157,43 +159,52 @@ module _ (end_at : ℕ → RunEnd) (most : ℕ) where
 
 module _ (script : Script) (budget : ℕ) (shape : Shape) where
   -- one run answers for the lengths from its greatest end up to its own
-  pub put_right : (next from : ℕ) (result : RunResult) (old new : List LengthRange) → 1 ≤ next → next ≤ CEILING + 1 →
-      result ≡ run_in script budget shape (next - 1) → from ≡ highest_end result.trace → IsRightFrom script budget shape next old →
-      IsPutBefore (range from (end_of result.outcome)) old new → IsRightFrom script budget shape from new
-  put_right next from result old new some within ran start is put = by is
+  pub put_right : (next from : ℕ) (told : RunResult) (old new : List LengthRange) → 1 ≤ next → next ≤ CEILING + 1 →
+      TellsRunIn script budget shape (next - 1) told → from ≡ highest_end told.trace → IsRightFrom script budget shape next old →
+      IsPutBefore (range from (end_of told.outcome)) old new → IsRightFrom script budget shape from new
+  put_right next from told old new some within tells start is put = by is
     where
       longest : ℕ
       longest = next - 1
 
       begins : highest_end (run_in script budget shape longest).trace ≡ from
-      begins = sym (start ∙ ap (λ (r : RunResult). highest_end r.trace) ran)
+      begins = sym (start ∙ tells.top)
 
       lower : from ≤ longest
       lower = subst (λ n. n ≤ longest) begins (heap-within script budget shape longest)
 
-      alike : (length : ℕ) → from ≤ length → length ≤ longest → end_in script budget shape length ≡ end_of result.outcome
+      alike : (length : ℕ) → from ≤ length → length ≤ longest → end_in script budget shape length ≡ end_of told.outcome
       alike length ge le =
           ap end_of (heaps-same script budget shape length longest le (omega (arith, within, some)) (subst (λ n. n ≤ length) (sym begins) ge)).outcome
-          ∙ ap (λ (r : RunResult). end_of r.outcome) (sym ran)
+          ∙ ap end_of (sym tells.outcome)
 
       by : IsRightFrom script budget shape next old → IsRightFrom script budget shape from new
       by (inl (all, none)) =
-          inr (first_table (end_in script budget shape) CEILING from (end_of result.outcome) new (omega (arith, lower, all))
-          (λ length ge le. alike length ge (omega (arith, le, all))) (subst (λ l. IsPutBefore (range from (end_of result.outcome)) l new) none put))
+          inr (first_table (end_in script budget shape) CEILING from (end_of told.outcome) new (omega (arith, lower, all))
+          (λ length ge le. alike length ge (omega (arith, le, all))) (subst (λ l. IsPutBefore (range from (end_of told.outcome)) l new) none put))
       by (inr table) =
-          inr (put_table (end_in script budget shape) CEILING from next (end_of result.outcome) old new (omega (arith, lower, some))
+          inr (put_table (end_in script budget shape) CEILING from next (end_of told.outcome) old new (omega (arith, lower, some))
           (λ length ge less. alike length ge (omega (arith, less))) table put)
 
-  pub from_shorter : (next from : ℕ) (result : RunResult) → 1 ≤ next → result ≡ run_in script budget shape (next - 1) → from ≡ highest_end result.trace → from < next
-  from_shorter next from result some ran start =
-      let begins = start ∙ ap (λ (r : RunResult). highest_end r.trace) ran in
+  pub from_shorter : (next from : ℕ) (told : RunResult) → 1 ≤ next → TellsRunIn script budget shape (next - 1) told → from ≡ highest_end told.trace → from < next
+  from_shorter next from told some tells start =
+      let begins = start ∙ tells.top in
       let within = heap-within script budget shape (next - 1) in omega (arith, begins, within, some)
 
   -- what the run in a heap grants ends within the ceiling
-  pub grants_within : (next : ℕ) (result : RunResult) → 1 ≤ next → next ≤ CEILING + 1 → result ≡ run_in script budget shape (next - 1) → GrantsWithin CEILING result.trace
-  grants_within next result some within ran k t there granted =
-      let found = sym (ap (λ (r : RunResult). slice_get r.trace k) ran) ∙ there in
-      let le = heap-grants-within script budget shape (next - 1) k t found granted in omega (arith, le, some, within)
+  pub grants_within : (next : ℕ) (told : RunResult) → 1 ≤ next → next ≤ CEILING + 1 → TellsRunIn script budget shape (next - 1) told → GrantsWithin CEILING told.trace
+  grants_within next told some within tells k t there granted =
+      let own : end_of_line t ≡ end_of_attempt t = ap (granted_end t) granted in
+      let below = end_within k told.trace t there in
+      let top = heap-within script budget shape (next - 1) in omega (arith, own, below, tells.top, top, some, within)
+
+  -- the run in a heap tells of itself
+  pub tells-itself : (length : ℕ) (told : RunResult) → told ≡ run_in script budget shape length → TellsRunIn script budget shape length told
+  tells-itself length told is = record {
+    outcome = ap (λ (r : RunResult). r.outcome) is;
+    steps = ap (λ (r : RunResult). r.steps) is;
+    top = ap (λ (r : RunResult). highest_end r.trace) is;
+  }
 
   -- what the table shows
   pub found_bad : (table : List LengthRange) (length : ℕ) (result : RunResult) → IsLengthTable script budget shape table → first_bad table ≡ Some length →

@@ -1,2 +1,4 @@
+pub mod Forks
 pub mod Lengths
+pub mod SetHeaps
 pub mod Walk

@@ -1,12 +1,13 @@
-//! How the runs of a script end in heaps of every length, found by whole runs from the longest heap down.
+//! How the runs of a script end in heaps of every length, found by runs from the longest heap down.
 
-ghost use Rattle.std.specs.Prelude.{◌≡◌, ◌≢◌, ◌↔◌, ◌+◌, ◌-◌, ◌<◌, ◌≤◌, None, false, IfOk, IfSome, IsTrue};
+ghost use Rattle.std.specs.Prelude.{◌≡◌, ◌≢◌, ◌↔◌, ◌+◌, ◌-◌, ◌<◌, ◌≤◌, None, false, IfOk, IfSome, IsTrue, OnOk};
 ghost use Rattle.wb_heap_model.specs.Space.{is_shape};
 ghost use Rattle.wb_tree.specs.Sound.{is_script};
 ghost use Rattle.wb_runs.specs.Lengths.{run_in, IsLeastBadLength, IsLengthTable, IsNoBadLength};
 ghost use Rattle.wb_heap_model.specs.Rises.{highest_end};
 ghost use Rattle.wb_machine.specs.declared.fault.RunFault.TheVariants.{BadShape};
 ghost use Rattle.wb_lengths.specs.Lengths.{AreLengths, first_bad, has_cut};
+ghost use Rattle.wb_lengths.specs.Forks.{AreOf};
 ghost use Rattle.wb_lengths.specs.Walk.{IsRightFrom};
 
 use crate::heap_runs::HeapRuns;
@@ -165,9 +166,9 @@ fn has_cut(table: &LengthTable) -> bool
 }
 
 /// Makes the table of all lengths; returns `None` if the runs take more steps than are left.
-fn find_table<P: Progress>(
-    runs: &mut HeapRuns,
-    script: &Script,
+fn find_table<'a, P: Progress>(
+    runs: &mut HeapRuns<'a>,
+    script: &'a Script,
     budget: u32,
     shape: Shape,
     progress: &mut P,
@@ -175,6 +176,7 @@ fn find_table<P: Progress>(
     requires script { IsTrue (is_script script.now) }
     requires least { 1 ≤ budget }
     requires greatest { budget ≤ LARGEST_BUDGET }
+    requires forks { AreOf script.now budget shape runs.old.forks }
     ensures table { IfOk result (λ found.
         IfSome found (IsLengthTable script.now budget shape)) }
     ensures whole { runs.old.steps_left ≡ None → IfOk result (λ found. found ≢ None) }
@@ -195,10 +197,10 @@ fn find_table<P: Progress>(
 
 /// Makes the run in a heap that is one byte shorter than `next`. This run gives the result for a range of lengths below `next`. Puts
 /// this range before the others, and returns its least length, in bytes; `None` if the run takes more steps than are left.
-fn put_lengths_below<P: Progress>(
-    runs: &mut HeapRuns,
+fn put_lengths_below<'a, P: Progress>(
+    runs: &mut HeapRuns<'a>,
     table: &mut TableSoFar,
-    script: &Script,
+    script: &'a Script,
     budget: u32,
     shape: Shape,
     next: u32,
@@ -209,11 +211,14 @@ fn put_lengths_below<P: Progress>(
     requires greatest { budget ≤ LARGEST_BUDGET }
     requires within { (1 ≤ next) × (next ≤ CEILING + 1) }
     requires so_far { IsRightFrom script.now budget shape next table.old }
+    requires forks { AreOf script.now budget shape runs.old.forks }
+    requires shaped { is_shape shape ≡ false → next ≡ CEILING + 1 }
     ensures least { IfOk result (λ found. IfSome found (λ from. from
         ≡ highest_end (run_in script.now budget shape (next - 1)).trace)) }
     ensures shorter { IfOk result (λ found. IfSome found (λ from. from < next)) }
     ensures right { IfOk result (λ found. IfSome found (λ from.
         IsRightFrom script.now budget shape from table.new)) }
+    ensures forks { OnOk result (AreOf script.now budget shape runs.new.forks) }
     ensures unbounded { runs.old.steps_left ≡ None → runs.new.steps_left ≡ None }
     ensures whole { runs.old.steps_left ≡ None → IfOk result (λ found. found ≢ None) }
     ensures shape { (result ≡ Err RunFault.BadShape) ↔ (is_shape shape ≡ false) }

@@ -1,49 +1,90 @@
-//! Whole runs of a script in heaps of one length after another.
+//! Runs of a script in heaps of one length after another, each shorter than the one before it.
 
-ghost use Rattle.std.specs.Prelude.{◌≡◌, ◌≢◌, ◌↔◌, ◌≤◌, None, false, IfOk, IfSome, IsTrue};
+ghost use Rattle.std.specs.Prelude.{◌≡◌, ◌≢◌, ◌↔◌, ℕ, ◌<◌, ◌≤◌, None, false, true, IfOk, IfSome, IsTrue, OnOk};
 ghost use Rattle.wb_heap_model.specs.Space.{is_shape};
 ghost use Rattle.wb_tree.specs.Sound.{is_script};
 ghost use Rattle.wb_runs.specs.Lengths.{run_in};
 ghost use Rattle.wb_machine.specs.declared.fault.RunFault.TheVariants.{BadShape};
 ghost use Rattle.wb_machine.specs.Seen.{whole_run_of};
+ghost use Rattle.wb_lengths.specs.Forks.{AreOf};
+ghost use Rattle.wb_lengths.specs.SetHeaps.{TellsRunIn};
 ghost use Rattle.wb_lengths.specs.Walk.{steps_after};
+ghost use Rattle.wb_basics.specs.declared.limits.TheConstants.{CEILING};
+ghost use Rattle.wb_heap_model.specs.declared.heap.Shape.{Shape};
+ghost use Rattle.wb_tree.specs.declared.script.Script.{Script};
 
+use crate::forks::Forks;
 use std::alloc::Global;
-use wb_basics::limits::LARGEST_BUDGET;
+use wb_basics::limits::{CEILING, LARGEST_BUDGET};
 use wb_basics::memory::NoMemory;
 use wb_heap_model::heap::{Rule, Shape};
-use wb_machine::{Finished, Heap, Machine, RunFault, Turn};
+use wb_machine::{Finished, Machine, RunFault, Turn};
 use wb_meaning::progress::StepProgress;
 use wb_meaning::run::RunResult;
 use wb_tree::script::Script;
 
 /// What runs that are made one after another share.
 #[derive(Drop)]
-pub(crate) struct HeapRuns {
+pub(crate) struct HeapRuns<'a> {
     pub(crate) alloc: Global,
-    /// The heap of the previous run; the next run takes over its memory.
-    pub(crate) spare: Option<Heap>,
+    /// Copies of the previous run, from which the next run may go on, and heaps whose memory it may take over.
+    pub(crate) forks: Forks<'a>,
     /// How many steps the runs still to be made may take together; `None` if there is no bound.
     pub(crate) steps_left: Option<u32>,
 }
 
-impl HeapRuns {
+impl<'a> HeapRuns<'a> {
     /// No run has been made yet.
-    pub(crate) fn new(alloc: Global, steps_left: Option<u32>) -> HeapRuns
-        ensures { result.steps_left ≡ steps_left }
+    pub(crate) fn new(alloc: Global, steps_left: Option<u32>) -> HeapRuns<'a>
+        ensures bound { result.steps_left ≡ steps_left }
+        ensures forks { (script : Script) (budget : ℕ) (shape : Shape) →
+            AreOf script budget shape result.forks }
     {
         HeapRuns {
             alloc,
-            spare: None,
+            forks: Forks::new(alloc),
             steps_left,
         }
     }
 
-    /// Makes the run in a heap of this length, in bytes. Returns `None` if the run takes more steps than are left. `progress` is notified of
-    /// the steps taken, unless the steps are bounded.
+    /// Makes the run in a heap of this length, in bytes. Each heap is shorter than the heaps before it. The result tells how the run goes,
+    /// but may have other notes and may name refusals otherwise. Returns `None` if the run takes more steps than are left. `progress` is
+    /// notified of the steps of whole runs, unless the steps are bounded.
     pub(crate) fn run<P: StepProgress>(
         &mut self,
-        script: &Script,
+        script: &'a Script,
+        budget: u32,
+        shape: Shape,
+        length: u32,
+        progress: &mut P,
+    ) -> Result<Option<RunResult>, RunFault>
+        requires script { IsTrue (is_script script.now) }
+        requires least { 1 ≤ budget }
+        requires greatest { budget ≤ LARGEST_BUDGET }
+        requires forks { AreOf script.now budget shape self.old.forks }
+        requires shaped { is_shape shape ≡ false → CEILING ≤ length }
+        ensures tells { IfOk result (λ found.
+            IfSome found (TellsRunIn script.now budget shape length)) }
+        ensures counted { IfOk result (λ found. IfSome found (λ r.
+            self.new.steps_left ≡ steps_after r.steps self.old.steps_left)) }
+        ensures forks { OnOk result (AreOf script.now budget shape self.new.forks) }
+        ensures unbounded { self.old.steps_left ≡ None → self.new.steps_left ≡ None }
+        ensures whole { self.old.steps_left ≡ None → IfOk result (λ found. found ≢ None) }
+        ensures shape { (result ≡ Err RunFault.BadShape) ↔ (is_shape shape ≡ false) }
+    {
+        if length >= CEILING {
+            return self.run_whole(script, budget, shape, length, progress);
+        }
+        match self.forks.run(script, budget, shape, length)? {
+            Some(run_result) => Ok(self.count(run_result)),
+            None => self.run_whole(script, budget, shape, length, progress),
+        }
+    }
+
+    /// Makes the run in a heap of this length, in bytes, as a whole run. Returns `None` if the run takes more steps than are left.
+    fn run_whole<P: StepProgress>(
+        &mut self,
+        script: &'a Script,
         budget: u32,
         shape: Shape,
         length: u32,
@@ -56,20 +97,52 @@ impl HeapRuns {
             r ≡ run_in script.now budget shape length)) }
         ensures counted { IfOk result (λ found. IfSome found (λ r.
             self.new.steps_left ≡ steps_after r.steps self.old.steps_left)) }
+        ensures forks { self.new.forks.runs.items ≡ self.old.forks.runs.items }
         ensures unbounded { self.old.steps_left ≡ None → self.new.steps_left ≡ None }
         ensures whole { self.old.steps_left ≡ None → IfOk result (λ found. found ≢ None) }
         ensures shape { (result ≡ Err RunFault.BadShape) ↔ (is_shape shape ≡ false) }
     {
         let start = Machine::new(self.alloc, script, Rule::Limit(length), budget, shape)?;
-        let machine = start.try_copy_over(self.spare.take())?;
+        let spare = self.forks.take_heap();
+        let machine = start.try_copy_over(spare)?;
         match finish_within(machine, self.steps_left, progress)? {
             Some(Finished { result, heap }) => {
-                self.spare = Some(heap);
+                self.forks.put_heap(heap)?;
+                self.forks.learn(&result)?;
                 self.steps_left = steps_after(self.steps_left, result.steps);
                 Ok(Some(result))
             }
             None => Ok(None),
         }
+    }
+
+    /// Counts the steps of a run, and returns its result; `None` if the run took more steps than were left.
+    fn count(&mut self, run_result: RunResult) -> Option<RunResult>
+        ensures same { IfSome result (λ r. r ≡ run_result) }
+        ensures counted { IfSome result (λ r.
+            self.new.steps_left ≡ steps_after r.steps self.old.steps_left) }
+        ensures forks { self.new.forks ≡ self.old.forks }
+        ensures unbounded { self.old.steps_left ≡ None → self.new.steps_left ≡ None }
+        ensures whole { self.old.steps_left ≡ None → result ≢ None }
+        ensures within { IfSome result (λ r. IfSome self.old.steps_left (λ left. r.steps ≤ left)) }
+    {
+        if !is_within(run_result.steps, self.steps_left) {
+            return None;
+        }
+        self.steps_left = steps_after(self.steps_left, run_result.steps);
+        Some(run_result)
+    }
+}
+
+/// Whether a run that took `taken` steps took at most `left` steps; `true` if there is no bound.
+fn is_within(taken: u32, left: Option<u32>) -> bool
+    ensures within { result ≡ true → IfSome left (λ most. taken ≤ most) }
+    ensures past { result ≡ false → IfSome left (λ most. most < taken) }
+    ensures unbounded { left ≡ None → result ≡ true }
+{
+    match left {
+        Some(most) => taken <= most,
+        None => true,
     }
 }
 

@@ -2,8 +2,13 @@
 #![tactic(auto)]
 
 pub mod all_lengths;
+mod certificate;
+mod forked;
+mod forks;
 mod heap_runs;
 mod highest_end;
+mod parting;
+mod set_run;
 mod table_so_far;
 
 pub use all_lengths::{BadLength, LengthFindings, first_bad, lengths, lengths_within};

@@ -2,6 +2,7 @@
 use Rattle.std.proofs.Common.{◌≡◌, ◌+◌, ◌≤◌, false, None}
 use Rattle.wb_basics.specs.declared.limits.TheConstants.{CEILING}
 use Rattle.wb_heap_model.specs.Space.{is_shape}
+use Rattle.wb_lengths.specs.Forks.{AreOf}
 use Rattle.wb_lengths.specs.Walk.{IsRightFrom}
 use Rattle.wb_lengths.proofs.all_lengths.find_table.Given as goal
 
@@ -10,6 +11,7 @@ invariant-loop-next g l = record {
   within : l.next ≤ CEILING + 1;
   right : IsRightFrom l.script l.budget l.shape l.next l.table;
   shaped : is_shape l.shape ≡ false → l.next ≡ CEILING + 1;
+  forks : AreOf l.script l.budget l.shape l.runs.forks;
   unbounded : l.fn.runs.steps_left ≡ None → l.runs.steps_left ≡ None;
 }
 
