@@ -97,7 +97,15 @@ class OfTheGate(InRoom):
             with patch.object(self.gate, "tally", return_value=Tally(1, 0)) as tally:
                 part.run()
             self.assertEqual((part.is_needed, tally.call_args.args[0][-3:]), (False, last))
-            self.assertEqual(tally.call_args.kwargs["may_be_none"], not is_all)
+            self.assertEqual(tally.call_args.kwargs.get("may_be_none", False), not is_all)
+
+    def test_fewer_wrong_bodies_where_the_proofs_took_long(self) -> None:
+        for minute, last in ((0, "15"), (135, "15"), (143, "7"), (149, "1"), (150, None), (170, None)):
+            now = self.gate.BEGUN + 60 * minute
+            with patch.object(self.gate, "tally", return_value=Tally(1, 0)) as tally, patch.object(self.gate.time, "monotonic", lambda: now):
+                told = self.gate.wrong_bodies(False)
+            self.assertEqual((told, tally.call_args and tally.call_args.args[0][-1]), (Tally(int(last is not None), 0), last))
+        self.assertIn("no wrong bodies were tried", self.said.getvalue())
 
     def test_the_chain_of_proofs(self) -> None:
         self.put("rt", "#!/bin/sh\necho 'rt: wb_basics proved'\necho '3 passed, 0 failed'\n")
