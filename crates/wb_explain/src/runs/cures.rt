@@ -1,7 +1,10 @@
 //! What to do about a panic, or about a pointer that became null: words alone, or words about lines that a run came to.
 
+use crate::runs::for_leave::{FreedForLeave, put_share_too_late};
+use crate::runs::half_made::{HalfMade, put_cure_of_half};
 use crate::runs::kept::name_of;
 use crate::runs::script_page::ScriptPage;
+use crate::runs::shared::{SharedCell, put_cure_of_shared};
 use wb_history::PointerFault;
 
 /// What to do.
@@ -47,33 +50,40 @@ pub enum Cure {
     WholeObject {
         left: u32,
     },
+    /// A field named an object before the object's second phase had ended, and this phase left.
+    HalfMade(HalfMade),
+    /// Fields of two objects named one cell, and both objects freed it.
+    Shared(SharedCell),
+    /// An item gave up a user of its cell for a leave, before the line `counts` counted this user. The item of the line `other` still holds
+    /// the cell. Both lines are 0 if they aren't known.
+    ShareTooLate {
+        freed: FreedForLeave,
+        other: u32,
+        counts: u32,
+    },
+    /// The line `from` gave the pointer at fault null, or left before it gave the pointer a cell. The line `used` used the pointer.
+    CheckBefore {
+        from: u32,
+        used: u32,
+        fault: PointerFault,
+        has_left: bool,
+    },
 }
 
 /// Writes what to do.
 pub fn put_cure(page: &mut ScriptPage<'_>, cure: Cure) {
     match cure {
-        Cure::Words(words) => {
-            if !words.is_empty() {
-                page.page.write_help_text(words);
-            }
-        }
+        Cure::Words(words) if !words.is_empty() => page.page.write_help_text(words),
+        Cure::Words(_) => {}
         Cure::Reallocated { failed, words } => {
             let word = page.word(failed, 0);
             page.page
                 .write_help(format_args!("if the `{word}` of line {failed} {words}"));
         }
         Cure::FieldTooEarly { set, gone } => put_too_early(page, set, gone),
-        Cure::FieldKept { set } => {
-            let name = page.word(set, 1);
-            page.page.write_help(format_args!(
-                "`{name}`, which line {set} set, still names it: set that only after the last line that may leave, or let the object's `destroy` set it to null"
-            ));
-        }
+        Cure::FieldKept { set } => put_field_kept(page, set),
         Cure::DestroyedByLeave { left, used, fault } => {
-            let name = name_of(page, used, fault);
-            page.page.write_help(format_args!(
-                "the leave of line {left} destroyed it with its item: where that leave was caught, neither use `{name}` nor free it again"
-            ));
+            put_destroyed(page, left, name_of(page, used, fault));
         }
         Cure::PassedPush { off, push, head } => put_passed_push(page, off, push, head),
         Cure::ItemsKept {
@@ -84,7 +94,45 @@ pub fn put_cure(page: &mut ScriptPage<'_>, cure: Cure) {
         Cure::WholeObject { left } => page.page.write_help(format_args!(
             "the object was whole when line {left} left: undo there what was done by half, or do it only after that line; or check with `if some` first"
         )),
+        Cure::HalfMade(half) => put_cure_of_half(page, half),
+        Cure::Shared(shared) => put_cure_of_shared(page, shared),
+        Cure::ShareTooLate {
+            freed,
+            other,
+            counts,
+        } => put_share_too_late(page, freed, other, counts),
+        Cure::CheckBefore {
+            from,
+            used,
+            fault,
+            has_left,
+        } => put_check_before(page, from, name_of(page, used, fault), used, has_left),
     }
+}
+
+fn put_field_kept(page: &mut ScriptPage<'_>, set: u32) {
+    let name = page.word(set, 1);
+    page.page.write_help(format_args!(
+        "`{name}`, which line {set} set, still names it: set that only after the last line that may leave, or let the object's `destroy` set it to null"
+    ));
+}
+
+fn put_destroyed(page: &mut ScriptPage<'_>, left: u32, name: &str) {
+    page.page.write_help(format_args!(
+        "the leave of line {left} destroyed it with its item: where that leave was caught, neither use `{name}` nor free it again"
+    ));
+}
+
+fn put_check_before(page: &mut ScriptPage<'_>, from: u32, name: &str, used: u32, has_left: bool) {
+    if has_left {
+        return page.page.write_help(format_args!(
+            "`{name}` is null, since line {from} left: where that leave was caught, don't come to line {used}, or check it there with `if some {name}`"
+        ));
+    }
+    let word = page.word(from, 0);
+    page.page.write_help(format_args!(
+        "`{name}`, to which line {from} may give null, must be checked with `if some` before line {used}; `{word}l` leaves instead of giving null"
+    ));
 }
 
 fn put_too_early(page: &mut ScriptPage<'_>, set: u32, gone: u32) {

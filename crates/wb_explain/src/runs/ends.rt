@@ -8,6 +8,7 @@ use crate::runs::cuts::put_cut;
 use crate::runs::destroyed::{OF_OBJECT, of_item};
 use crate::runs::end_words::{CodeName, PanicName};
 use crate::runs::explanation::{FindingKind, Told};
+use crate::runs::half_made::{half_made, put_half_made, put_since};
 use crate::runs::heap_checks::{cure_of_check, put_counted, put_counts};
 use crate::runs::item_gone::{cure_of_gone, has_two_items, left_instead, put_item_gone, put_user};
 use crate::runs::items_left::{
@@ -127,6 +128,7 @@ fn put_meaning(
 ) -> usize {
     if let Some(fault) = run.end.pointer {
         put_fault(page, line, fault);
+        put_since(page, line, run);
         return fault.word;
     }
     if let Some(Meant { word, values }) = run.end.values {
@@ -170,6 +172,7 @@ fn put_way(page: &mut ScriptPage<'_>, line: u32, raised: Raised, run: &WatchedRu
     put_room(page, run)?;
     let kept = kept_value(page, line, run)?;
     put_kept(page, kept, run)?;
+    put_half_made(page, line, run)?;
     put_stored(page, stored_before_panic(page, line, run))?;
     put_items(page, raised, run)?;
     match &run.end.counted {
@@ -301,7 +304,7 @@ fn put_remarks(
 }
 
 /// The leave whose code should be looked at, if an overlooked leave may have led to the panic; `None` otherwise, or if an operation set the
-/// pointer to null.
+/// pointer to null, or if a field named an object before its second phase had ended.
 fn look_of(
     page: &ScriptPage<'_>,
     line: u32,
@@ -310,6 +313,7 @@ fn look_of(
 ) -> Option<Leave> {
     match kept {
         Some(Kept::ByOperation(_) | Kept::Unchecked { .. }) => None,
+        _ if half_made(page, line, run).is_some() => None,
         _ if may_come_of_leave(line, run) => overlooked_leave(page, run),
         _ => None,
     }

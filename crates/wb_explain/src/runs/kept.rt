@@ -3,6 +3,7 @@
 use crate::runs::copies::put_cure_of_copied;
 use crate::runs::pointers::failed_for;
 use crate::runs::script_page::{ScriptPage, Written};
+use crate::runs::shared::object_of;
 use std::alloc::AllocError;
 use wb_history::{
     BodyKind, By, End, Ended, NullOf, PointerFault, PointerState, PointerWrite, WatchedRun,
@@ -124,7 +125,9 @@ fn dead_since(
     run: &WatchedRun<'_>,
 ) -> Result<Option<Kept>, AllocError> {
     let name = name_of(page, line, fault);
-    if let Some(left) = line_left(page, line, name, Some(fault), since, run)? {
+    if may_be_set_after(page, ended, run)
+        && let Some(left) = line_left(page, line, name, Some(fault), since, run)?
+    {
         return Ok(Some(Kept::Dead { left, ended }));
     }
     Ok(match fault.write {
@@ -134,6 +137,14 @@ fn dead_since(
         }
         _ => None,
     })
+}
+
+/// Whether the pointer by which a line freed a cell may have a use after that: false for a destructor's own fields, and for locals of
+/// destructors and operations.
+fn may_be_set_after(page: &ScriptPage<'_>, ended: Ended, run: &WatchedRun<'_>) -> bool {
+    let (freed, bodies) = (ended.at.number(), &run.history.bodies);
+    let name = page.word(freed, 1);
+    !bodies.undoes(freed) || name.contains('.') && object_of(name) != "self"
 }
 
 /// Whether a `set` copied a pointer whose cell was already dead, or whose cell a line of the same body then freed or deleted by another

@@ -6,6 +6,7 @@ use crate::runs::left_cells::{put_left_cure, put_left_item};
 use crate::runs::let_go::{let_go, put_let_go};
 use crate::runs::overwritten::{put_overwritten, put_second_time};
 use crate::runs::paths::{AfterLine, before_name, put_path};
+use crate::runs::plain_release::{class_name, put_cure_of_plain};
 use crate::runs::script_page::{ScriptPage, Written};
 use crate::runs::taken::{Then, is_to_leave, put_cure_of_left, put_left};
 use crate::runs::unlooked::{put_unlooked, put_unlooked_call, unlooked_result};
@@ -77,7 +78,7 @@ pub fn put_loss(page: &mut ScriptPage<'_>, life: Life, run: &WatchedRun<'_>) -> 
     }
     if let Loss::OwnerGone(owner, ended) = loss
         && ended.end != End::Deleted
-        && ended.by != By::Line
+        && (ended.by != By::Line || run.history.bodies.undoes(ended.at.number()))
     {
         let pushed = owner.pushed.number();
         page.mark_new(pushed, 0, "the object that owned it was pushed here")?;
@@ -182,11 +183,8 @@ fn put_cure_of_loss(page: &mut ScriptPage<'_>, loss: Loss, life: Life, run: &Wat
     };
     match loss {
         Loss::Overwritten(line) => put_overwritten(page, line, name, life.kind, run),
-        Loss::OwnerGone(_, ended) if ended.end != End::Deleted => {
-            let (line, cure) = (ended.at.number(), instead_of_plain(ended.by));
-            page.page.write_help(format_args!(
-                "line {line} freed the object that owned it as a plain cell, so its destructor didn't run: {cure}"
-            ));
+        Loss::OwnerGone(owner, ended) if ended.end != End::Deleted => {
+            put_cure_of_plain(page, owner, ended, name, life.kind);
         }
         Loss::OwnerGone(owner, ended) => {
             let (line, class) = (ended.at.number(), class_name(page, owner));
@@ -261,14 +259,6 @@ fn put_in_place_of_pop(page: &mut ScriptPage<'_>, life: Life) {
     }
 }
 
-/// What to do instead of freeing an object as a plain cell. `by` says what freed the object.
-fn instead_of_plain(by: By) -> &'static str {
-    match by {
-        By::Line => "release an object with `delete`",
-        By::PopDestroy | By::Leave => "push an object with `pushobj`",
-    }
-}
-
 /// Returns how a cell of this kind is released.
 pub fn release_of(kind: Kind) -> &'static str {
     match kind {
@@ -329,14 +319,6 @@ fn returns(run: &WatchedRun<'_>, held: Held) -> bool {
             *index == held.index
         }
         _ => false,
-    }
-}
-
-/// The name of an object's class.
-fn class_name<'a>(page: &ScriptPage<'a>, object: Life) -> &'a str {
-    match object.kind {
-        Kind::Object(class) => page.lines.class_name(class),
-        Kind::Raw | Kind::Text | Kind::Cleanup => "",
     }
 }
 

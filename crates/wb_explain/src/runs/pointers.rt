@@ -2,10 +2,13 @@
 
 use crate::runs::cures::Cure;
 use crate::runs::destroyed::of_item_without_cell;
+use crate::runs::for_leave::{cure_of_share, ended_by_item};
+use crate::runs::half_made::half_made;
 use crate::runs::kept::name_of;
 use crate::runs::owners::{cure_of_leave, cure_of_two_owners};
 use crate::runs::panics::CHECK_FIRST;
 use crate::runs::script_page::ScriptPage;
+use crate::runs::shared::shared_cell;
 use crate::runs::taken::{LEFT_NONE, cure_of_taken, destroyed_after_callee, taken_with};
 use crate::runs::whole::cure_in_destructor;
 use wb_history::{
@@ -74,19 +77,36 @@ pub fn cure_of(
         PointerState::Null => match run.history.bodies.body_of(line).kind {
             BodyKind::Destructor => cure_in_destructor(page, run),
             BodyKind::Operation => Cure::Words(CHECK_FIRST),
-            _ => cure_outside(run, line, fault),
+            _ => cure_outside(page, run, line, fault),
         },
         PointerState::Gone(life) if fault.pointer.is_none() => Cure::Words(cure_of_view(life)),
-        PointerState::Gone(life) => match life.and_then(|life| life.ended) {
-            Some(ended) if is_out_of_order(run, line, fault, ended) => Cure::Words(
-                "the cleanup stack destroys its newest item first: push what a destructor or an operation uses before the item that uses it",
-            ),
-            Some(ended) if is_in_item(run, line, life) => {
-                Cure::Words(of_item_without_cell(Some(ended.end)).1)
-            }
-            Some(ended) => cure_of_ended(page, run, line, fault, ended),
-            None => Cure::Words("set the pointer to null when its cell is freed"),
+        PointerState::Gone(life) => match cure_of_share(page, run, line, fault) {
+            Some(cure) => cure,
+            None => cure_of_gone(page, run, line, fault, life),
         },
+    }
+}
+
+/// What to do about a pointer whose cell is gone. `life` is the life of this cell, if that is kept.
+fn cure_of_gone(
+    page: &ScriptPage<'_>,
+    run: &WatchedRun<'_>,
+    line: u32,
+    fault: PointerFault,
+    life: Option<Life>,
+) -> Cure {
+    match life.and_then(|life| life.ended) {
+        Some(ended) if is_out_of_order(run, line, fault, ended) => Cure::Words(
+            "the cleanup stack destroys its newest item first: push what a destructor or an operation uses before the item that uses it",
+        ),
+        Some(ended) if is_in_item(run, line, life) => {
+            Cure::Words(of_item_without_cell(Some(ended.end)).1)
+        }
+        Some(ended) => {
+            let ended = ended_by_item(page, run, fault, ended);
+            cure_of_ended(page, run, line, fault, ended)
+        }
+        None => Cure::Words("set the pointer to null when its cell is freed"),
     }
 }
 
@@ -102,10 +122,45 @@ fn cure_of_view(life: Option<Life>) -> &'static str {
 }
 
 /// What to do about a null pointer, outside of destructors and operations.
-fn cure_outside(run: &WatchedRun<'_>, line: u32, fault: PointerFault) -> Cure {
+fn cure_outside(
+    page: &ScriptPage<'_>,
+    run: &WatchedRun<'_>,
+    line: u32,
+    fault: PointerFault,
+) -> Cure {
+    if let Some(half) = half_made(page, line, run) {
+        return Cure::HalfMade(half);
+    }
     match failed_for(run, line, fault) {
-        Some(made) => cure_of_null(made),
+        Some(made) => cure_of_maker(run, line, fault, made),
         None => Cure::Words(CHECK_FIRST),
+    }
+}
+
+/// What to do about a null pointer that a line uses, if the attempt that was to give the pointer a cell failed.
+fn cure_of_maker(
+    run: &WatchedRun<'_>,
+    line: u32,
+    fault: PointerFault,
+    made: AttemptMade<'_>,
+) -> Cure {
+    let (bodies, from) = (&run.history.bodies, made.maker.line);
+    let is_elsewhere = bodies.body_of(from) != bodies.body_of(line);
+    match made.maker.statement {
+        _ if !made.maker.gives_null() => Cure::CheckBefore {
+            from,
+            used: line,
+            fault,
+            has_left: true,
+        },
+        Some(Statement::Alloc(..) | Statement::New(..) | Statement::NewText(..)) if is_elsewhere =>
+            Cure::CheckBefore {
+                from,
+                used: line,
+                fault,
+                has_left: false,
+            },
+        _ => cure_of_null(made),
     }
 }
 
@@ -282,7 +337,10 @@ fn cure_of_ended(
             "`popdestroy` frees what it takes off: use `pop` if the cell is to stay, or set the pointer to null after it",
         ),
         (_, By::Leave) => cure_of_leave(run, line, fault, ended),
-        (_, By::Line) => Cure::Words(cure_of_line(run, line, fault, ended)),
+        (_, By::Line) => match shared_cell(page, run, fault, ended) {
+            Some(shared) => Cure::Shared(shared),
+            None => Cure::Words(cure_of_line(run, line, fault, ended)),
+        },
     }
 }
 

@@ -1,5 +1,6 @@
 //! What is said about the life of a cell: where it was made, put on the cleanup stack, and freed, deleted or moved, and by what.
 
+use crate::runs::for_leave::{put_other_item, put_ran_for};
 use crate::runs::item_gone::has_two_items;
 use crate::runs::pointers::owner_left;
 use crate::runs::script_page::{ScriptPage, Written};
@@ -17,6 +18,7 @@ pub fn put_life(page: &mut ScriptPage<'_>, run: &WatchedRun<'_>, life: Life) -> 
         put_of_caller(page, taken_with(ended, run), run)?;
         put_callee(page, destroyed_after_callee(page, ended, run), run)?;
         put_end(page, history, ended)?;
+        put_ran_for(page, run, life)?;
         if ended.by != By::Line || life.popped.is_none() {
             let said = if has_two_items(run, life.ended) {
                 "its newer item, destroyed first, was pushed here"
@@ -25,6 +27,7 @@ pub fn put_life(page: &mut ScriptPage<'_>, run: &WatchedRun<'_>, life: Life) -> 
             };
             page.mark_new(life.pushed.number(), 1, said)?;
         }
+        put_other_item(page, run, life)?;
         put_other_holder(page, history, ended, life)?;
         put_owner_left(page, run, ended, life)?;
     }

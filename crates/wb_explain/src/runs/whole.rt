@@ -33,9 +33,9 @@ fn is_whole(page: &ScriptPage<'_>, run: &WatchedRun<'_>) -> bool {
     destructors == 1 && has_second_phase(page, pushed, until, run)
 }
 
-/// The line of the call path that is in the same body as the line `pushed`; if there is none, that body has ended, and the result is
+/// Returns the line of the call path that is in the same body as the line `pushed`; if there is none, that body has ended, and the result is
 /// greater than every line.
-fn line_in_body_of(pushed: u32, run: &WatchedRun<'_>) -> u32 {
+pub fn line_in_body_of(pushed: u32, run: &WatchedRun<'_>) -> u32 {
     let bodies = &run.history.bodies;
     for at in run.end.path.as_slice() {
         if bodies.body_of(*at) == bodies.body_of(pushed) {

@@ -1,0 +1,70 @@
+//! What to do about a cell that a field of an object named, if the object was freed as a plain cell.
+
+use crate::runs::script_page::ScriptPage;
+use wb_heap_model::heap::Kind;
+use wb_history::{By, Ended, Life};
+
+/// Says what to do about a cell that the field `name` of an object named when the object was freed as a plain cell.
+pub fn put_cure_of_plain(
+    page: &mut ScriptPage<'_>,
+    owner: Life,
+    ended: Ended,
+    name: &str,
+    kind: Kind,
+) {
+    let (line, class) = (ended.at.number(), class_name(page, owner));
+    if has_destructor(page, class) {
+        let cure = instead_of_plain(ended.by);
+        return page.page.write_help(format_args!(
+            "line {line} freed the object that owned it as a plain cell, so its destructor didn't run: {cure}"
+        ));
+    }
+    let field = name.split('.').nth(1).unwrap_or(name);
+    let release = match kind {
+        Kind::Object(_) => "delete",
+        Kind::Raw | Kind::Text | Kind::Cleanup => "free",
+    };
+    page.page.begin_help();
+    page.page.write(format_args!(
+        "line {line} freed the object whose field `{field}` still named it, and `{class}` has no `destroy`: "
+    ));
+    match ended.by {
+        By::Line => page.page.write(format_args!(
+            "{release} what `{field}` names before line {line}; or let a `destroy` of `{class}` {release} that, and line {line} `delete` the object"
+        )),
+        By::PopDestroy | By::Leave => page.page.write(format_args!(
+            "let a `destroy` of `{class}` {release} what `{field}` names, and push the object with `pushobj`"
+        )),
+    }
+    page.page.end_line();
+}
+
+/// What to do instead of freeing an object as a plain cell. `by` says what freed the object.
+fn instead_of_plain(by: By) -> &'static str {
+    match by {
+        By::Line => "release an object with `delete`",
+        By::PopDestroy | By::Leave => "push an object with `pushobj`",
+    }
+}
+
+/// Returns the name of an object's class.
+pub fn class_name<'a>(page: &ScriptPage<'a>, object: Life) -> &'a str {
+    match object.kind {
+        Kind::Object(class) => page.lines.class_name(class),
+        Kind::Raw | Kind::Text | Kind::Cleanup => "",
+    }
+}
+
+/// Whether the class `name` has a destructor.
+fn has_destructor(page: &ScriptPage<'_>, name: &str) -> bool {
+    let mut is_inside = false;
+    for line in 1..=page.lines.count() {
+        match page.word(line, 0) {
+            "class" => is_inside = page.word(line, 1) == name,
+            "proc" | "op" => is_inside = false,
+            "destroy" if is_inside => return true,
+            _ => {}
+        }
+    }
+    false
+}
