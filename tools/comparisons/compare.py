@@ -31,6 +31,11 @@ sweep/eighth-push-grows-the-cleanup-cell.check sweep/unpushed-object-leaks-when-
 first-path/freed-neighbours-merge.run
 """.split()
 
+# the cases whose tables of lengths have so many rows that most runs go on from copies of others
+MANY_ROWS = """
+lengths/cells-that-halve-count-in-binary.lengths lengths/cells-that-halve-past-a-failure-of-the-script.lengths
+""".split()
+
 # what ends the comparison of a script: an answer that differs, is late, or is no report at all
 FAULTS = (Difference, NoAnswer, ValueError, LookupError)
 
@@ -118,6 +123,7 @@ KINDS = {
         compare_lengths,
         "20 no bad length; 8 a cut and no bad length; 8 a bad length alone; 10 a bad length below good ones; "
         "2 bad lengths up to the ceiling",
+        cases=tuple(MANY_ROWS),
     ),
     "lists": Kind(compare_lists, "20 runs that find nothing; 30 a run that leaks or panics; 3 a run that is cut"),
     "moving": Kind(

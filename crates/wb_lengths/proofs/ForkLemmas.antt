@@ -2,7 +2,7 @@
 use Rattle.std.proofs.Common.{◌≡◌, ℕ, arith, Bool, true, false, List, [], ◌∷◌, ◌++◌, sym, ◌∙◌, ap, subst, cond, Result, Ok, Err}
 use Rattle.std.specs.Prelude.{IfOk}
 use Rattle.std.specs.List.{All}
-use Rattle.std.proofs.lemmas.List.Elements.{All-push, All-same}
+use Rattle.std.proofs.lemmas.List.Elements.{All-cons, All-push, All-same}
 use Rattle.wb_basics.specs.declared.limits.TheConstants.{CEILING}
 use Rattle.wb_heap_model.specs.declared.heap.Rule.{Rule}
 use Rattle.wb_heap_model.specs.declared.heap.Rule.TheVariants.{Set}
@@ -12,8 +12,9 @@ use Rattle.wb_meaning.specs.Run.{run}
 use Rattle.wb_meaning.proofs.TraceLemmas.{line_at, run-lines}
 use Rattle.wb_tree.specs.declared.script.Script.{Script}
 use Rattle.wb_runs.specs.Sets.{set_run}
+use Rattle.wb_lengths.specs.declared.forks.Forks.{Forks}
 use Rattle.wb_lengths.specs.declared.set_run.SetRun.{SetRun}
-use Rattle.wb_lengths.specs.Forks.{IsOf, IsOfSame}
+use Rattle.wb_lengths.specs.Forks.{IsOf, IsOfSame, KeepsForks}
 use Rattle.wb_lengths.specs.SetHeaps.{TellsRunIn, shows_run_in}
 use Rattle.wb_lengths.specs.Walk.{GrantsWithin}
 use Rattle.wb_lengths.proofs.SetHeaps.{tells-by-set}
@@ -26,10 +27,19 @@ of-same script budget shape old new same is = record {
   same_shape = same.same_shape ∙ is.same_shape;
 }
 
+-- where the forks stay, they are of the same
+pub keeps-same : (old new : Forks) → new.runs.items ≡ old.runs.items → KeepsForks old new
+keeps-same old new e script budget shape are = All-same (IsOf script budget shape) new.runs.items old.runs.items e are
+
 -- a list that one element was added to, unless memory ran out
 pub all-added : {X : Type 0} (P : X → Type 0) (xs ys : List X) (x : X) (b : Bool) → ys ≡ cond b (xs ++ x ∷ []) xs → All P xs → P x → All P ys
 all-added P xs ys x true e are is = All-same P ys (xs ++ x ∷ []) e (All-push P xs x are is)
 all-added P xs ys x false e are is = All-same P ys xs e are
+
+-- and at its front
+pub all-put_first : {X : Type 0} (P : X → Type 0) (xs ys : List X) (x : X) (b : Bool) → ys ≡ cond b (x ∷ xs) xs → All P xs → P x → All P ys
+all-put_first P xs ys x true e are is = All-same P ys (x ∷ xs) e (All-cons P x xs is are)
+all-put_first P xs ys x false e are is = All-same P ys xs e are
 
 -- what follows where a call was well
 pub map_ok : {A E : Type 0} {P Q : A → Type 0} (r : Result A E) → ((a : A) → P a → Q a) → IfOk r P → IfOk r Q

@@ -18,7 +18,7 @@ ghost use Rattle.std.specs.Prelude.{ℕ};
 
 use crate::certificate::shows_run_in;
 use crate::forks::{Forks, MOST_FORKS};
-use crate::parting::{MOST_STEPS, numbers_below, parting_of};
+use crate::parting::{MOST_ATTEMPTS, MOST_STEPS, numbers_below, parting_of};
 use crate::set_run::SetRun;
 use wb_basics::limits::LARGEST_BUDGET;
 use wb_basics::memory::NoMemory;
@@ -27,14 +27,10 @@ use wb_machine::{Finished, RunFault};
 use wb_meaning::run::RunResult;
 use wb_tree::script::Script;
 
-/// The most attempts that a run makes after the one at which it parts from the run before. The run is copied before each of these attempts.
-/// A whole run takes about as long as ten to twenty copies, so with more of these attempts a whole run takes less time.
-const MOST_ATTEMPTS: u32 = 16;
-
 impl<'a> Forks<'a> {
-    /// Judges the attempt that a run has made in a heap of this length, in bytes; `before` is a copy from before the attempt. If the cell ends
-    /// past the heap or the ceiling, the copy goes on in its place, and refuses the attempt. A copy from before a cell that ends past all earlier
-    /// ones is kept as a fork.
+    /// Judges the attempt that a run has just made in a heap of this length, in bytes, and returns the run that goes on; `before` is a copy
+    /// from before the attempt. If the cell ends past the heap or the ceiling, the copy goes on instead, and refuses the attempt. If the
+    /// cell ends past all earlier cells, the copy is kept as a fork.
     fn judge(
         &mut self,
         mut before: SetRun<'a>,
@@ -59,7 +55,7 @@ impl<'a> Forks<'a> {
         Ok(after)
     }
 
-    /// Takes the next turn of a run in a heap of this length, in bytes.
+    /// Takes the next turn of a run in a heap of this length, in bytes, and makes a copy first if the turn makes an attempt.
     fn take_turn(&mut self, mut run: SetRun<'a>, length: u32) -> Result<SetRun<'a>, NoMemory>
         ensures { IfOk result (GoesOn self.old run.entry self.new) }
     {
@@ -96,8 +92,8 @@ impl<'a> Forks<'a> {
         Ok(None)
     }
 
-    /// Takes the next turn of a run in a heap of this length, in bytes. No fork is made before the run has made `first` attempts; until then,
-    /// the run must refuse by itself what the heap refuses.
+    /// Takes the next turn of a run in a heap of this length, in bytes. Until the run has made `first` attempts, no copy is made, so the
+    /// run's set must have all attempts before that which the heap refuses.
     fn approach(
         &mut self,
         mut run: SetRun<'a>,
@@ -113,8 +109,8 @@ impl<'a> Forks<'a> {
         Ok(run)
     }
 
-    /// Takes a run to right before an attempt, in a heap of this length, in bytes. `None` if the run ends before, or takes too long. Of the
-    /// attempts on the way, only the last few get forks.
+    /// Takes a run to right before an attempt, in a heap of this length, in bytes. Forks are made only before the last few attempts on the
+    /// way. `None` if the run ends before that, or takes too long.
     fn go_to(
         &mut self,
         mut run: SetRun<'a>,
@@ -136,8 +132,8 @@ impl<'a> Forks<'a> {
         Ok(None)
     }
 
-    /// Makes the last run again, up to right before an attempt. `None` if that takes too long. The run's heap is one byte longer than
-    /// `length`, in bytes, or it refuses the same attempts.
+    /// Makes the last run again, up to right before an attempt. `None` if that takes too long. The last run granted no cell that ends more
+    /// than one byte past `length`.
     fn make_again(
         &mut self,
         script: &'a Script,
@@ -159,7 +155,8 @@ impl<'a> Forks<'a> {
         Ok(found)
     }
 
-    /// The last run right before an attempt: a fork, if there is one, or else the run made again. `None` if that takes too long.
+    /// The last run right before an attempt: a fork, or a run that goes on from the last fork before that, or else the run made again. `None`
+    /// if that takes too long. The last run granted no cell that ends more than one byte past `length`.
     fn fork_at(
         &mut self,
         script: &'a Script,
@@ -176,7 +173,10 @@ impl<'a> Forks<'a> {
     {
         self.drop_past(number)?;
         match self.take_last() {
-            Some(run) if run.machine.next_attempt() == Some(number) => Ok(Some(run)),
+            Some(run) if run.machine.attempts().saturating_add(MOST_FORKS) >= number => {
+                let found = self.go_to(run, number, length.saturating_add(1))?;
+                Ok(found)
+            }
             Some(run) => {
                 self.give_up(run)?;
                 self.make_again(script, budget, shape, number, length)

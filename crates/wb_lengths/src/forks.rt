@@ -131,14 +131,63 @@ impl<'a> Forks<'a> {
         }
     }
 
+    /// Takes the first fork; `None` if there is none.
+    fn take_first(&mut self) -> Option<SetRun<'a>>
+        ensures { (script : Script) (budget : ℕ) (shape : Shape) → AreOf script budget shape self.old →
+            AreOf script budget shape self.new × IfSome result (IsOf script budget shape) }
+    {
+        self.runs.pop_front()
+    }
+
+    /// Adds a fork before all others.
+    fn put_first(&mut self, run: SetRun<'a>) -> Result<(), NoMemory>
+        ensures { KeepsForksWith self.old run.entry self.new }
+    {
+        self.runs
+            .push_front(run)
+            .map_err(|failed| NoMemory::from(AllocError::from(failed)))
+    }
+
+    /// Gives the second fork up; does nothing if there are fewer than two.
+    fn drop_second(&mut self) -> Result<(), NoMemory>
+        ensures { KeepsForks self.old self.new }
+    {
+        match self.take_first() {
+            Some(first) => {
+                self.drop_first()?;
+                self.put_first(first)
+            }
+            None => Ok(()),
+        }
+    }
+
+    /// Whether the first fork has nearly the whole length of the heap, in bytes.
+    fn is_first_long(&self, length: u32) -> bool {
+        match self.runs.front() {
+            Some(run) => run.machine.committed() >= length - length / 8,
+            None => false,
+        }
+    }
+
+    /// Gives one of the first two forks up. The first one stays if it has nearly the whole length of the heap: the run can be made again
+    /// from there without writing the zeros of a whole heap.
+    fn make_room(&mut self, length: u32) -> Result<(), NoMemory>
+        ensures { KeepsForks self.old self.new }
+    {
+        if self.is_first_long(length) {
+            return self.drop_second();
+        }
+        self.drop_first()
+    }
+
     /// Adds a fork, which is about to make a later attempt than all others. The heap has this length, in bytes. If there are too many forks
-    /// then, the first one is given up.
+    /// then, one of the first two is given up.
     pub fn push(&mut self, run: SetRun<'a>, length: u32) -> Result<(), NoMemory>
         ensures { KeepsForksWith self.old run.entry self.new }
     {
         self.add(run)?;
         if self.runs.len() > most_forks(length) {
-            self.drop_first()?;
+            self.make_room(length)?;
         }
         Ok(())
     }
@@ -172,16 +221,20 @@ impl<'a> Forks<'a> {
         self.runs.pop_back()
     }
 
-    /// Learns from a whole run where the run in the next shorter heap parts from it. Does nothing before enough whole runs were made.
+    /// Learns from a whole run where the run in the next shorter heap parts from it. The forks are of an older run, and are given up. Does
+    /// nothing else before enough whole runs were made.
     pub fn learn(&mut self, run_result: &RunResult) -> Result<(), NoMemory>
-        ensures { self.new.runs.items ≡ self.old.runs.items }
+        ensures { KeepsForks self.old self.new }
     {
+        self.drop_past(0)?;
         self.whole_runs = self.whole_runs.saturating_add(1);
         if self.whole_runs < WHOLE_RUNS {
             return Ok(());
         }
-        self.refused = refused_in(self.alloc, run_result)?;
         self.parting = parting_of(run_result);
+        if self.parting.is_some() {
+            self.refused = refused_in(self.alloc, run_result)?;
+        }
         Ok(())
     }
 }

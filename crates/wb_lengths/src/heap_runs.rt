@@ -6,7 +6,7 @@ ghost use Rattle.wb_tree.specs.Sound.{is_script};
 ghost use Rattle.wb_runs.specs.Lengths.{run_in};
 ghost use Rattle.wb_machine.specs.declared.fault.RunFault.TheVariants.{BadShape};
 ghost use Rattle.wb_machine.specs.Seen.{whole_run_of};
-ghost use Rattle.wb_lengths.specs.Forks.{AreOf};
+ghost use Rattle.wb_lengths.specs.Forks.{AreOf, KeepsForks};
 ghost use Rattle.wb_lengths.specs.SetHeaps.{TellsRunIn};
 ghost use Rattle.wb_lengths.specs.Walk.{steps_after};
 ghost use Rattle.wb_basics.specs.declared.limits.TheConstants.{CEILING};
@@ -97,7 +97,7 @@ impl<'a> HeapRuns<'a> {
             r ≡ run_in script.now budget shape length)) }
         ensures counted { IfOk result (λ found. IfSome found (λ r.
             self.new.steps_left ≡ steps_after r.steps self.old.steps_left)) }
-        ensures forks { self.new.forks.runs.items ≡ self.old.forks.runs.items }
+        ensures forks { OnOk result (KeepsForks self.old.forks self.new.forks) }
         ensures unbounded { self.old.steps_left ≡ None → self.new.steps_left ≡ None }
         ensures whole { self.old.steps_left ≡ None → IfOk result (λ found. found ≢ None) }
         ensures shape { (result ≡ Err RunFault.BadShape) ↔ (is_shape shape ≡ false) }

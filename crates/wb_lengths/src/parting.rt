@@ -3,7 +3,12 @@
 use std::alloc::Global;
 use wb_basics::memory::NoMemory;
 use wb_heap_model::heap::{Answer, Attempt, Numbers};
+use wb_heap_model::reported::Trace;
 use wb_meaning::run::RunResult;
+
+/// The most attempts that a run makes after the one at which it parts from the run before. The run is copied before each of these attempts.
+/// A whole run takes about as long as ten to twenty copies, so with more of these attempts a whole run takes less time.
+pub(crate) const MOST_ATTEMPTS: u32 = 16;
 
 /// The greatest number of steps of a run from whose copies others are made. Each copy carries the lines of the attempts so far, of which
 /// there are at most as many.
@@ -21,22 +26,32 @@ fn granted_end(attempt: &Attempt) -> u32 {
     }
 }
 
-/// The number of the attempt with which a run first comes to its greatest length: a heap that is one byte shorter than that refuses this
-/// attempt, and none before it that the run's heap grants. `None` if no attempt is granted, or if copies of the run take too long.
-pub(crate) fn parting_of(run_result: &RunResult) -> Option<u32> {
-    if run_result.steps > MOST_STEPS || run_result.lines.len() > MOST_LINES {
-        return None;
-    }
+/// The number of the attempt at which a run comes to its greatest length; 0 if no attempt is granted.
+fn first_at_top(trace: &Trace) -> u32 {
     let mut top = 0;
-    let mut number = None;
-    for attempt in run_result.trace.as_slice() {
+    let mut number = 0;
+    for attempt in trace.as_slice() {
         let end = granted_end(attempt);
         if end > top {
             top = end;
-            number = Some(attempt.number);
+            number = attempt.number;
         }
     }
     number
+}
+
+/// The number of the attempt at which a run comes to its greatest length. A heap that is one byte shorter refuses this attempt, and grants
+/// all that the run's heap grants before it. `None` if there is no such attempt, or if the run in that heap is better made as a whole run:
+/// it makes about as many attempts after this one as the run here.
+pub(crate) fn parting_of(run_result: &RunResult) -> Option<u32> {
+    let number = first_at_top(&run_result.trace);
+    if number == 0 || run_result.trace.len() > number as usize + MOST_ATTEMPTS as usize {
+        return None;
+    }
+    if run_result.steps > MOST_STEPS || run_result.lines.len() > MOST_LINES {
+        return None;
+    }
+    Some(number)
 }
 
 /// The numbers of the attempts that the heap of a run refuses.

@@ -1,15 +1,16 @@
--- Proof: fork_at. The run is a fork, or is made again; either way it is of the same as the forks.
+-- Proof: fork_at. The run goes on from a fork, or is made again; either way it is of the same as the forks.
 use Rattle.std.proofs.lemmas.List.Elements.{All-same}
 use Rattle.wb_lengths.specs.Forks.{IsOf}
 use Rattle.wb_lengths.proofs.ForkLemmas.{map_ok}
 use Rattle.wb_lengths.proofs.forks.Forks.fork_at.Goals as goal
 
-pub returns-in-Some-clause-of : goal.returns-in-Some-clause-of
-returns-in-Some-clause-of c are =
+pub returns-in_ok-found-in-Some-clause-of : goal.returns-in_ok-found-in-Some-clause-of
+returns-in_ok-found-in-Some-clause-of c are =
     let script = c.args.script.now in
     let budget = c.args.budget in
     let shape = c.args.shape in
-    c.in-Some.ensures script budget shape (c.drop_past.ensures script budget shape are)
+    let taken = c.in-Some.ensures script budget shape (c.drop_past.ensures script budget shape are) in
+    c.in_ok-found-in-Some.ensures script budget shape taken.0 taken.1
 
 pub returns-in_ok-give_up-in-Some-2-clause-of : goal.returns-in_ok-give_up-in-Some-2-clause-of
 returns-in_ok-give_up-in-Some-2-clause-of c =
