@@ -216,7 +216,8 @@ impl<'a> Forks<'a> {
         requires least { 1 ≤ budget }
         requires greatest { budget ≤ LARGEST_BUDGET }
         requires forks { AreOf script.now budget shape self.old }
-        ensures tells { IfOk result (λ found. IfSome found (TellsRunIn script.now budget shape length)) }
+        ensures tells { IfOk result (λ found.
+            IfSome found (TellsRunIn script.now budget shape length)) }
         ensures forks { OnOk result (AreOf script.now budget shape self.new) }
         ensures shape { result ≡ Err RunFault.BadShape → is_shape shape ≡ false }
     {
@@ -243,7 +244,8 @@ impl<'a> Forks<'a> {
         requires least { 1 ≤ budget }
         requires greatest { budget ≤ LARGEST_BUDGET }
         requires forks { AreOf script.now budget shape self.old }
-        ensures tells { IfOk result (λ found. IfSome found (TellsRunIn script.now budget shape length)) }
+        ensures tells { IfOk result (λ found.
+            IfSome found (TellsRunIn script.now budget shape length)) }
         ensures forks { OnOk result (AreOf script.now budget shape self.new) }
         ensures shape { result ≡ Err RunFault.BadShape → is_shape shape ≡ false }
     {

@@ -133,7 +133,8 @@ impl<'a> Forks<'a> {
 
     /// Takes the first fork; `None` if there is none.
     fn take_first(&mut self) -> Option<SetRun<'a>>
-        ensures { (script : Script) (budget : ℕ) (shape : Shape) → AreOf script budget shape self.old →
+        ensures { (script : Script) (budget : ℕ) (shape : Shape) →
+            AreOf script budget shape self.old →
             AreOf script budget shape self.new × IfSome result (IsOf script budget shape) }
     {
         self.runs.pop_front()
@@ -215,7 +216,8 @@ impl<'a> Forks<'a> {
 
     /// Takes the last fork; `None` if there is none.
     pub fn take_last(&mut self) -> Option<SetRun<'a>>
-        ensures { (script : Script) (budget : ℕ) (shape : Shape) → AreOf script budget shape self.old →
+        ensures { (script : Script) (budget : ℕ) (shape : Shape) →
+            AreOf script budget shape self.old →
             AreOf script budget shape self.new × IfSome result (IsOf script budget shape) }
     {
         self.runs.pop_back()
