@@ -7,7 +7,8 @@ from math import comb
 from pathlib import Path
 from typing import NamedTuple
 
-from tools.common import programs
+from tools.comparisons.compare import PROGRAMS
+from tools.worked_cases import case_called
 
 PLAIN = Path(__file__).resolve().parent / "plain/main.rs"
 
@@ -471,6 +472,14 @@ def long_script() -> str:
     return "\n".join(lines + ["end"]) + "\n"
 
 
+# scripts of nearly the greatest length whose lines do nothing, or are in a body that nothing calls
+BLANK_LINES = 60_000
+COMMENTS = 15_000
+BLOCKS = 1_250
+BLOCK = "repeat 1\nif less x 0\nadd x 1\nelse\nadd x 2\nend\nend\n"
+NEVER_CALLED = f"proc never\nint x\n{BLOCKS * BLOCK}end\nproc main\nend\n"
+
+
 def number_of(word: str, text: str) -> int:
     """The number of the line that begins with a word."""
     return next(int(line.split(" ")[1]) for line in text.splitlines() if line.startswith(f"{word} "))
@@ -523,6 +532,9 @@ WORKLOADS = [
     Workload("cells of 60 KB that grow where cells move", "run --moving", GROWING, "byte of them", lambda _: GROWN_BYTES),
     Workload("texts of 256 units", "run", BUFFERS, "step", steps),
     Workload("reading 5,000 lines", "run", long_script(), "byte", lambda _: len(long_script())),
+    Workload("reading 60,000 blank lines", "run", BLANK_LINES * "\n" + "proc main\nend\n", "line", lambda _: BLANK_LINES),
+    Workload("reading 15,000 short comments", "run", COMMENTS * "# a\n" + "proc main\nend\n", "line", lambda _: COMMENTS),
+    Workload("reading 2,500 blocks", "run", NEVER_CALLED, "byte", lambda _: len(NEVER_CALLED)),
     Workload("sizing of allocation and release", "size", ALLOCATION, "attempt", lambda _: 1 + 3 * 142_857),
     Workload("check of 3,003 attempts, found at the third", "check", FOUND_EARLY, "attempt", attempts_swept),
     Workload("sweep of 1,001 attempts", "sweep", SWEPT, "attempt", attempts_swept),
@@ -537,7 +549,7 @@ WORKLOADS = [
     Workload("a quarter of a sweep by pairs", "sweep --pairs --from 51 --to 100", SWEPT_BY_PAIRS, "pair of the whole", pairs_swept),
     Workload("sweep by sets of 3 of 60 attempts", "sweep --failures 3", SWEPT_TURNS.format(turns=59), "set", sets_swept),
     Workload("sweep by sets of 3 of 120 attempts", "sweep --failures 3", SWEPT_TURNS.format(turns=119), "set", sets_swept),
-    *(Workload(f"every set of `{it.name}`", "sweep --sets", it.read_text(), "state", None) for it in programs()),
+    *(Workload(f"every set of `{it.split('/')[-1]}`", "sweep --sets", case_called(it).script.decode(), "state", None) for it in PROGRAMS),
     Workload("every set of 1,000 fallbacks", "sweep --sets", FALLBACKS, "state", None),
     Workload("sets up to 10,000 states", "sweep --sets --states 10000", TOLD_APART, "state", lambda _: 10_000),
     Workload("sets up to 100,000 states", "sweep --sets", TOLD_APART, "state", lambda _: 100_000, by_time=True),

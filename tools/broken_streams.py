@@ -9,118 +9,63 @@ that signal was set to.
 import os
 import subprocess
 import tempfile
-import time
-from collections.abc import Iterator
-from contextlib import contextmanager
+from itertools import product
 from pathlib import Path
-from threading import Thread
-from typing import Any
 
-from tools.common import COMMAND_LINE_FAULT, FOUND, READ_OR_WRITE_FAULT, REFUSED, NoAnswer, Trials, Word, program_parser
-from tools.run_cases import ways_to_lose
+from tools.common import COMMAND_LINE_FAULT, FOUND, READ_OR_WRITE_FAULT, REFUSED, Tally, program_parser
 
-SCRIPT = b"proc main\nptr a\nalloc a 16\nend\n"
-ATTEMPTS = b"attempt 1 length 144 place 0 granted\nattempt 2 length 32 place 144 granted\n"
-REPORT = ATTEMPTS + b"ended\nleaks 1\nleak 2 length 32 place 144\nsteps 1\n"
-# what is looked at of an answer: one of its streams, nothing where that isn't read, and the status
-Told = tuple[bytes, int]
-
-FOUND_RUN, NOTHING = (REPORT, FOUND), (b"refused 8\n", REFUSED)
+SCRIPT = "proc main\nptr a\nalloc a 16\nend\n"
+ATTEMPTS = "attempt 1 length 144 place 0 granted\nattempt 2 length 32 place 144 granted\n"
+REPORT = ATTEMPTS + "ended\nleaks 1\nleak 2 length 32 place 144\nsteps 1\n"
 # the lengths, and then the same run
-FOUND_LENGTH = b"from 0 nocleanup\nfrom 144 ended\nfrom 176 leaks 1\nlength 176\n" + REPORT, FOUND
-READ_FAULT, UNWRITTEN = (b"read fault\n", READ_OR_WRITE_FAULT), (b"", READ_OR_WRITE_FAULT)
-NO_COMMAND, EARLY = (b"", COMMAND_LINE_FAULT), (b"refused 3 line 3\n", REFUSED)
+LENGTHS = "from 0 nocleanup\nfrom 144 ended\nfrom 176 leaks 1\nlength 176\n" + REPORT
+# how the script comes in pieces
+PIECES = "(head -c 3 script; sleep 0.05; tail -c +4 script) |"
+
+# what runs write and how they end, by lines of bash in a folder with the script
+RUNS: list[tuple[str, int, list[str]]] = [
+    (REPORT, FOUND, [f"{PIECES} workbench run", "cat script > fifo & workbench run fifo"]),
+    (LENGTHS, FOUND, [f"{PIECES} workbench lengths"]),
+    ("refused 3 line 3\n", REFUSED, ["(head -c 3 script; sleep 0.05; head -c 21 script | tail -c +4) | workbench run"]),
+    ("refused 3 line 3\n", REFUSED, ["head -c 18 script | workbench lengths"]),
+    ("refused 8\n", REFUSED, ["workbench run < /dev/null", "workbench lengths < /dev/null"]),
+    ("refused 1\n", REFUSED, ["workbench run big"]),
+    ("read fault\n", READ_OR_WRITE_FAULT, [f"workbench {it}" for it in ("run .", "lengths .", "run <&-", "lengths <&-", "run < .")]),
+    ("read fault\n", READ_OR_WRITE_FAULT, ["workbench run /none/at/all", "workbench run ''"]),
+    ("read fault\n", READ_OR_WRITE_FAULT, ["workbench run $(head -c 60000 /dev/zero | tr '\\0' x)"]),
+    ("", COMMAND_LINE_FAULT, ["workbench run $(yes run | head -n 100000)"]),
+    ("", COMMAND_LINE_FAULT, [rf"workbench run $'{it}\xff' < script" for it in ("", "--budget=")]),
+    ("", COMMAND_LINE_FAULT, [f"workbench {it} 5 | head -n 50000)" for it in ("run $(yes -- --budget", "lengths $(yes -- --limit")]),
+    # of two reports, each in both forms, where standard output is lost; SIGPIPE is as it is by default, or ignored
+    ("", READ_OR_WRITE_FAULT, [
+        way.replace("W", f"workbench {command} < script")
+        for command, way in product(
+            ("run", "run --json", "lengths", "lengths --json"),
+            ("W >&-", "W > /dev/full", "(sleep 0.1; W) | true", "trap '' PIPE; (sleep 0.1; W) | true"),
+        )
+    ]),
+    # the fault that is named is the first of what was read and written
+    ("workbench: none: no such file\n", READ_OR_WRITE_FAULT, [
+        f"workbench run {it}" for it in ("none 2>&1 > /dev/null", "none 2>&1 > /dev/full", "--json none 2>&1 > /dev/full")
+    ]),
+    ("workbench: standard output: no space is left on the device\n", READ_OR_WRITE_FAULT, ["workbench run < script 2>&1 > /dev/full"]),
+]
 # how long a run may take, in seconds
-LIMIT = 5
-
-# scripts that come through a pipe in pieces
-PIPES: list[tuple[str, Told, str, list[bytes]]] = [
-    ("a pipe that comes in pieces", FOUND_RUN, "run", [SCRIPT[:3], SCRIPT[3:20], SCRIPT[20:]]),
-    ("a pipe that ends early", EARLY, "run", [SCRIPT[:3], SCRIPT[3:18]]),
-    ("lengths of a pipe that comes in pieces", FOUND_LENGTH, "lengths", [SCRIPT[:3], SCRIPT[3:]]),
-    ("lengths of a pipe that ends early", EARLY, "lengths", [SCRIPT[:18]]),
-]
-# words that are broken
-WORDS: list[tuple[str, Told, list[Word]]] = [
-    ("no such file", READ_FAULT, ["run", "/none/at/all"]),
-    ("an empty name", READ_FAULT, ["run", ""]),
-    ("a name of 60,000 bytes", READ_FAULT, ["run", "x" * 60_000]),
-    ("100,000 words", NO_COMMAND, ["run"] * 100_001),
-    ("an option 50,000 times", NO_COMMAND, ["run", *["--budget", "5"] * 50_000]),
-    ("a word that is no UTF-8", NO_COMMAND, ["run", b"\xff"]),
-    ("an option that is no UTF-8", NO_COMMAND, ["run", b"--budget=\xff"]),
-    ("an option of another command 50,000 times", NO_COMMAND, ["lengths", *["--limit", "5"] * 50_000]),
-]
-
-
-@contextmanager
-def fed(path: str | int, pieces: list[bytes]) -> Iterator[None]:
-    """Writes pieces into a pipe meanwhile, with pauses, and closes it."""
-
-    def feed() -> None:
-        with open(path, "wb", buffering=0) as pipe:
-            for piece in pieces:
-                pipe.write(piece)
-                time.sleep(0.02)
-
-    writer = Thread(target=feed)
-    writer.start()
-    yield
-    writer.join()
-
-
-class Runs(Trials):
-    def make(self, what: str, wanted: Told, *words: Word, of_messages: bool = False, **streams: Any) -> None:
-        """Makes a run, which must come to this: on standard output, or on standard error where that is asked for."""
-        try:
-            answer = self.run(*words, script=SCRIPT, seconds=LIMIT, **streams)
-            told: object = (answer.messages if of_messages else answer.output, answer.status)
-        except NoAnswer as late:
-            told = late
-        self.expect(what, told, wanted)
-
-
-def give_input(runs: Runs, room: Path) -> None:
-    big, fifo, directory = room / "big", room / "fifo", os.open(room, os.O_RDONLY)
-    with big.open("wb") as file:
-        file.truncate(4 << 30)
-    for command, name in (("run", ""), ("lengths", "lengths of ")):
-        runs.make(f"{name}a directory", READ_FAULT, command, room)
-        runs.make(f"{name}closed standard input", READ_FAULT, command, stdin=None, preexec_fn=lambda: os.close(0))
-        runs.make(f"{name}nothing", NOTHING, command, stdin=subprocess.DEVNULL)
-    runs.make("a directory as standard input", READ_FAULT, "run", stdin=directory)
-    runs.make("a file of 4 GiB", (b"refused 1\n", REFUSED), "run", big)
-    for what, wanted, command, pieces in PIPES:
-        reader, end = os.pipe()
-        with fed(end, pieces), open(reader, "rb") as given:
-            runs.make(what, wanted, command, stdin=given)
-    os.mkfifo(fifo)
-    with fed(str(fifo), [SCRIPT]):
-        runs.make("a FIFO", FOUND_RUN, "run", fifo)
-    for what, wanted, words in WORDS:
-        runs.make(what, wanted, *words)
-
-
-def take_output(runs: Runs, missing: Path) -> None:
-    """Makes runs with output that is broken, of two reports, each in both forms, with SIGPIPE as it is by default, or ignored; and looks
-    which fault is named: the first of what was read and written."""
-    of_missing = f"workbench: {missing}: no such file\n".encode(), READ_OR_WRITE_FAULT
-    of_full = b"workbench: standard output: no space is left on the device\n", READ_OR_WRITE_FAULT
-    for way, streams in ways_to_lose("stdout"):
-        for words in ("run", "run --json", "lengths", "lengths --json"):
-            for restore in (True, False) if way == "unread" else (True,):
-                what = f"{words} with standard output {way}, and SIGPIPE {restore}"
-                runs.make(what, UNWRITTEN, *words.split(), restore_signals=restore, **streams)
-    with open("/dev/full", "wb") as full:
-        runs.make("no such file, named", of_missing, "run", missing, of_messages=True, stdout=subprocess.DEVNULL)
-        runs.make("a full device, named", of_full, "run", of_messages=True, stdout=full)
-        runs.make("no such file and a full device", of_missing, "run", missing, of_messages=True, stdout=full)
-        runs.make("the same as JSON", of_missing, "run", "--json", missing, of_messages=True, stdout=full)
+LIMIT = 60
 
 
 def main(words: list[str]) -> int:
-    runs = Runs(program_parser(__doc__).parse_args(words).program)
+    program, tally = program_parser(__doc__).parse_args(words).program, Tally()
     with tempfile.TemporaryDirectory() as folder:
-        give_input(runs, Path(folder))
-        take_output(runs, Path(folder, "none"))
-    return runs.end()
+        Path(folder, "script").write_text(SCRIPT, encoding="ascii")
+        os.mkfifo(Path(folder, "fifo"))
+        with Path(folder, "big").open("wb") as file:
+            file.truncate(4 << 30)
+        for output, status, lines in RUNS:
+            for line in lines:
+                shell = ["timeout", str(LIMIT), "bash", "-o", "pipefail", "-c", f'workbench() {{ "$PROGRAM" "$@"; }}; {line}']
+                world, pipe, nothing = os.environ | {"PROGRAM": str(program)}, subprocess.PIPE, subprocess.DEVNULL
+                ran = subprocess.run(shell, cwd=folder, env=world, stdout=pipe, stderr=nothing, text=True)
+                told = ran.stdout, ran.returncode
+                tally.check(told == (output, status), f"{line}: {told} in place of {(output, status)}")
+    return tally.end()

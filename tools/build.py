@@ -57,7 +57,6 @@ class Build:
         self.libraries = list(dict.fromkeys(it for name in names for it in crates.below(name)))
         self.asked = as_rt_has_them(crates.root, self.libraries)
         self.count, self.begun, self.done = len(self.libraries) + names.count(PROGRAM_CRATE), time.monotonic(), 0
-        self.running: list[str] = []
         self.lock = Lock()
 
     def steps(self, lanes: int) -> list[Step]:
@@ -74,20 +73,13 @@ class Build:
         """Has a crate proved by what writes into a log; shows that and raises `Unproved` where it isn't, and else says how far the build
         is."""
         with tempfile.TemporaryFile("w+", errors="replace") as log:
-            with self.lock:
-                self.running.append(crate)
             is_proved = is_proved_by(log)
+            log.seek(0)
             with self.lock:
-                self.running.remove(crate)
                 self.done += is_proved
                 minutes, seconds = divmod(round(time.monotonic() - self.begun), 60)
-                said = f"{crate} proved, {self.done} of {self.count}, {minutes} min {seconds:02} s"
-                if not is_proved:
-                    log.seek(0)
-                    said = f"{log.read()}{crate} is not proved"
-                elif self.running:
-                    said += f"; now {', '.join(self.running)}"
-                print(said, file=sys.stderr, flush=True)
+                far = f"{crate} proved, {self.done} of {self.count}, {minutes} min {seconds:02} s"
+                print(far if is_proved else f"{log.read()}{crate} is not proved", file=sys.stderr, flush=True)
         if not is_proved:
             raise Unproved(f"{crate} is not proved")
 

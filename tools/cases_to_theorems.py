@@ -1,12 +1,9 @@
 """Writes worked cases as theorems about the definitions, or compares those that are written.
 
-`cases/README.md` says what a case is. Each accepted script becomes a tree of `wb_tree/src/script.rt`, each report the value that the
-definitions must give for it, and each case one theorem, proved by computing. The theorems of a group, or of the groups of a folder, are in
-files of their own, in `proofs/WorkedCases` of `wb_worked`; check that crate then. With `--compare` they are only compared with what would
-be written.
-
-A theorem that fails means that the case and the definitions differ. Where a word of a script, a report or the arguments isn't known, this
-ends with the name of the case and what Python says of the word.
+Each accepted script of a case becomes a tree of `wb_tree/src/script.rt`, each report the value that the definitions must give for it, and
+each case one theorem, proved by computing. They are in `proofs/WorkedCases` of `wb_worked`; check that crate then. A theorem that fails
+means that the case and the definitions differ. Where a word of a script, a report or the arguments isn't known, this ends with the name of
+the case and what Python says of the word.
 """
 
 import argparse
@@ -35,9 +32,9 @@ TRIED = {"every": "every", "pairs": "pair", "persistent": "persistent"}
 # longer runs are left out, which may pass the checker's limits, and longer tables of lengths, since each range is two runs to compute
 MOST_STEPS = 100_000
 MOST_RANGES = 10
-# the groups that are left out: reports without rows; what stands on standard error; scripts that are as long as they may be, each of them
-# a long term; and what `proofs/PersistentExamples.antt` has
-LEFT_OUT = ("brief", "explained", "limits", "persistent-and-ends")
+# the groups that are left out: words, and reports without rows; what stands on standard error; scripts that are as long as they may be,
+# each of them a long term; and what `proofs/PersistentExamples.antt` has
+LEFT_OUT = ("command-line", "explained", "limits", "persistent-and-ends")
 
 WORKED = ROOT / "crates/wb_worked"
 # the module of what all have in common, which definitions cite too, and the one that names the others, which are in a folder of its name

@@ -24,11 +24,6 @@ def examples() -> list[Path]:
     return sorted(EXAMPLES.glob("*.oom"))
 
 
-def programs() -> list[Path]:
-    """Longer scripts, as code is that is tested, in which some sets of failures or none show a mistake."""
-    return sorted((TOOLS / "programs").glob("*.oom"))
-
-
 # the exit statuses of the program
 FINE, FOUND, REFUSED, CUT, WANT_OF_MEMORY, READ_OR_WRITE_FAULT, COMMAND_LINE_FAULT = range(7)
 

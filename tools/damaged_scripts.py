@@ -35,31 +35,21 @@ def seeds() -> list[bytes]:
     return [text for text in scripts if 0 < len(text) <= 4000]
 
 
-@cache
-def words_of_seeds() -> list[bytes]:
-    return sorted({word for text in seeds() for word in WORDS.findall(text)})
-
-
 def damaged(chance: random.Random) -> bytes:
-    """A script with a few changes of a number, a line, a word or a byte. A line is dropped, doubled, moved, or put in from another script;
-    of the others another one stands in the place of one; bytes are put in or cut off as well."""
-    scripts, words = seeds(), words_of_seeds()
+    """A script with a few changes of a number, a line, a word or a byte: it goes, or comes twice, or another one is put before it or in its
+    place."""
+    scripts = seeds()
     text = chance.choice(scripts)
     for piece in chance.choices(list(PIECES), list(PIECES.values()), k=chance.choice((1, 1, 2, 3, 5))):
         found = [it.span() for it in piece.finditer(text)]
         start, end = chance.choice(found) if found else (len(text), len(text))
-        others = piece.findall(chance.choice((text, text, chance.choice(scripts))))
-        new = chance.choice(others or words)
+        old, others = text[start:end], piece.findall(chance.choice((text, chance.choice(scripts)))) or [b"\n"]
         if piece == NUMBER and found:
-            near = str(int(text[start:end]) + chance.choice((-16, -1, 1, 16))).encode()
-            new = chance.choice((near, chance.choice(NUMBERS)))
-        elif piece == LINE:
-            new, end = (b"", end) if chance.random() < 0.4 else (new, start)
-        elif piece == WORDS:
-            new = chance.choice((new, chance.choice(words)))
-        elif piece == BYTE:
-            new = bytes(chance.choice((chance.randrange(256), chance.randrange(32, 127), 10, 32)) for _ in range(chance.randint(0, 3)))
-            end = len(text) if chance.random() < 0.1 else start + chance.randint(0, 2)
+            new = chance.choice((*NUMBERS, *(str(int(old) + it).encode() for it in (-16, -1, 1, 16) * 3)))
+        else:
+            byte = bytes([chance.choice((chance.randrange(256), chance.randrange(32, 127), 10, 32))])
+            other = byte if piece == BYTE else chance.choice(others)
+            new = chance.choice((b"", 2 * old, other, other + old))
         text = text[:start] + new + text[end:]
     return text
 

@@ -1,19 +1,15 @@
 """Lets allocations of the program itself fail, and looks at what it answers then.
 
-The program is asked to `check` a script; a case, named as GROUP/NAME, has arguments of its own, and its script is given on standard
-input. Without a name these are the examples and some cases. For each number up to that of its last allocation the program runs three
-times: that one fails alone, with all later ones, and with all multiples of its number; where there are very many, some of the later ones
-are tried. Each run must give the report and the status that it gives with enough memory, or write the line `no memory` and end with 4, or
-write nothing and end with 4 where the command line itself finds no memory. Standard error must have what it has with enough memory, or
-nothing, or that there is no memory for the command; or less: where none was left to find what raised a panic, the same panic with what
-holds of all such panics, and where none was left for a further question of `check`, that this isn't decided. Some runs that write
-`no memory` are made once more with a standard output that takes nothing, and must then end with 5.
+The program is asked to `check` a script; a case, named as GROUP/NAME, has arguments of its own. Without a name these are the examples and
+some cases. For each number up to that of its last allocation the program runs three times: that one fails alone, with all later ones, and
+with all multiples of its number; where there are very many, some of the later ones are tried. Each run must give the report and the status
+that it gives with enough memory, or write the line `no memory` and end with 4, or write nothing and end with 4 where the command line
+itself finds no memory. Standard error may say less. Some runs that write `no memory` must end with 5 where standard output takes nothing.
 
-With `--same` the program is given no words and no input, and is one that makes a call once more where it found no memory: `wb_call_tests`,
-which `rt run` in its crate builds. So where a single allocation fails, it must write exactly what it writes with enough memory, and end
-with its status. An attempt that isn't a rise, on a heap or in a run that keeps the rises, must make no allocation, but for the last one of
-the run, whose turn also lists the leaks. In the other two ways it may also stop: then it has written some of those lines, from the first
-one on, and behind them `no memory`, and ends with 4.
+With `--same` the program is one that makes a call once more where it found no memory: `wb_call_tests`, which `rt run` in its crate builds.
+So where a single allocation fails, it must write exactly what it writes with enough memory. An attempt that isn't a rise must make no
+allocation, but for the last one of a run, whose turn also lists the leaks. In the other two ways it may also stop, with 4, behind some of
+those lines and `no memory`.
 
 It needs a C compiler (`cc`), which builds tools/failing_allocation.c.
 """

@@ -1,14 +1,9 @@
-"""What the gate runs: tools of the repository side by side, with how long each took; and what each crate waited for in a run of `rt ci`.
+"""What the gate runs: tools of the repository side by side, with how long each took.
 
 What a tool prints is shown as a whole once it has ended, below its name. Some tools spread their runs of the program over processors
-themselves. Such a tool gets several where no other one waits for them, or where it takes long; RT_JOBS tells it how many.
-
-`rt ci` prints a line as each crate ends, and one as its tests do, but none as they begin. Both may begin once the crates below have
-ended. So what is known from outside is when that was; what lies between that and a crate's own end is its proof, and its wait for a
-processor. A crate that is kept from an earlier run counts as no time: what stands on it waits for what is proved below it."""
+themselves. Such a tool gets several where no other one waits for them, or where it takes long; RT_JOBS tells it how many."""
 
 import os
-import re
 import resource
 import subprocess
 import sys
@@ -20,10 +15,7 @@ from threading import Lock
 from typing import NamedTuple
 
 from tools.common import ROOT, TOOLS, Tally, tally_of
-from tools.crates import Crates, Step, run_steps
-
-# the line by which a crate ends, or its tests; where a library of it failed, more stands behind it, and nothing was proved
-ENDED = re.compile(r"rt: (\w+)(: its tests are)? (?:proved|NOT PROVED)\n?")
+from tools.crates import Step, run_steps
 
 
 class ToolRun(NamedTuple):
@@ -85,43 +77,3 @@ class ToolRuns:
         width = max(len(it.name) for it in self.outcomes)
         for it in sorted(self.outcomes, key=lambda it: -it.processor_seconds):
             yield f"    {it.name:{width}} {it.seconds:6.1f} s, and {it.processor_seconds:6.1f} s of processor time"
-
-
-class ProofChain:
-    """The proofs of a run of `rt ci`, as they end."""
-
-    def __init__(self, crates: Crates) -> None:
-        self.crates = crates
-        # the second in which each crate or its tests ended, and the proof of the crate below that ended last, if one was done in this run
-        self.ended: dict[str, tuple[float, str]] = {}
-
-    def hear(self, line: str, second: float) -> None:
-        """Takes a line that came in this second of the run."""
-        told = ENDED.fullmatch(line)
-        if told and told[1] in self.crates.lines:
-            below = [it for it in self.crates.below(told[1]) if it in self.ended]
-            awaited = max(below, key=lambda it: self.ended[it][0], default="")
-            self.ended[f"{told[1]}'s tests" if told[2] else told[1]] = second, awaited
-
-    def lines(self, seconds: float) -> Iterator[str]:
-        """What is said of a run of so many seconds: what was proved, in the order in which it ended, and the longest chain."""
-        if not self.ended:
-            yield "no proof was done in this run, so there is no chain"
-            return
-        width, none = max(map(len, self.ended)), (0.0, "")
-        yield "what was proved, with the minutes of the run at which its last library had ended and it ended itself:"
-        for name, (second, awaited) in self.ended.items():
-            free = self.ended.get(awaited, none)[0]
-            yield f"    {name:{width}} {minutes(free)} {minutes(second)}  waited for {awaited or 'no crate'}"
-        yield "the longest chain, from what ended last down, with minutes of proof and of waiting for a processor, which look alike:"
-        link = max(self.ended, key=lambda it: self.ended[it][0])
-        last = self.ended[link][0]
-        while link:
-            second, awaited = self.ended[link]
-            yield f"    {link:{width}} {minutes(second - self.ended.get(awaited, none)[0])}"
-            link = awaited
-        yield f"    {'in all':{width}} {minutes(last)}, and {minutes(seconds - last).strip()} more until the run ended"
-
-
-def minutes(seconds: float) -> str:
-    return f"{seconds / 60:6.1f}"

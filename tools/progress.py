@@ -18,6 +18,7 @@ import time
 from collections.abc import Callable, Iterator
 from concurrent.futures import ThreadPoolExecutor
 from pathlib import Path
+from threading import Timer
 from typing import Any, NamedTuple
 
 from tools.common import CEILING, Answer, Trials, answer_of, program_parser, summed
@@ -154,12 +155,10 @@ def long_run(program: Path, kind: Kind, seconds: float = LEAST, has_estimate: bo
 def losing_terminal(program: Path, kind: Kind, script: bytes) -> Answer:
     """A run whose standard error is a terminal that goes away before anything is said."""
     master, slave = pty.openpty()
-    with ThreadPoolExecutor() as beside:
-        running = beside.submit(kind.run, program, script, stderr=slave)
-        time.sleep(QUIET / 2)
-        os.close(master)
+    Timer(QUIET / 2, os.close, [master]).start()
+    ran = kind.run(program, script, stderr=slave)
     os.close(slave)
-    return running.result()
+    return ran
 
 
 def screen(written: bytes) -> list[str]:
@@ -210,9 +209,7 @@ def look_at(program: Path, kind: Kind) -> Trials:
     """A kind of sweep: long ones and a short one, on a terminal and elsewhere."""
     checks, name = Trials(program), " ".join(kind.words)
     script, shown = long_run(program, kind, has_estimate=True)
-    with ThreadPoolExecutor() as beside:
-        lost = beside.submit(losing_terminal, program, kind, script)
-        ran, gone = kind.run(program, script), lost.result()
+    ran, gone = kind.run(program, script), losing_terminal(program, kind, script)
     checks.look(f"{name}: nothing is said without a terminal", not SAID.search(ran.messages) and b"\r" not in ran.messages, ran.messages)
     told = re.search(rb'attempts"?[ :](\d+)', ran.output)
     checks.look(f"{name}: the report where the terminal goes away", gone[0] == ran.output and gone.status == ran.status, gone)

@@ -227,15 +227,14 @@ def main(words: list[str]) -> int:
     return tally.end() if not given.show or tally.failed else 0
 
 
-def ways_to_lose(stream: str) -> Iterator[tuple[str, dict[str, Any]]]:
-    """Each way in which standard output or standard error may fail, by its name: `stdout` or `stderr`."""
-    number = {"stdout": 1, "stderr": 2}[stream]
-    yield "closed", {stream: None, "preexec_fn": lambda: os.close(number)}
+def ways_to_lose() -> Iterator[tuple[str, dict[str, Any]]]:
+    """Each way in which standard error may fail, by its name."""
+    yield "closed", {"stderr": None, "preexec_fn": lambda: os.close(2)}
     with open("/dev/full", "wb") as full:
-        yield "full", {stream: full}
+        yield "full", {"stderr": full}
     read_end, write_end = os.pipe()
     os.close(read_end)
-    yield "unread", {stream: write_end}
+    yield "unread", {"stderr": write_end}
     os.close(write_end)
 
 
@@ -246,7 +245,7 @@ def lose_messages(words: list[str]) -> int:
     """
     program, tally = program_parser(lose_messages.__doc__).parse_args(words).program, Tally()
     cases, failed = [it for it in cases_of("") if it.stderr is not None], set()
-    for way, streams in ways_to_lose("stderr"):
+    for way, streams in ways_to_lose():
         for case in cases:
             _, fault = tried(program, case.args, case.script, partial(fault_of, replace(case, stderr=None)), **streams)
             if fault is not None:

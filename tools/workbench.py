@@ -1,8 +1,7 @@
 """Turns into the workbench, on the same words and streams.
 
 Where the program isn't built, or is older than what it is made of, its sources are compiled without their proof. What is compiled is kept
-below the repository until its sources or the toolchain change; where it can't be kept, it gives one answer. Where the toolchain leaves no
-program, it runs the sources itself, and says on standard error what it did.
+below the repository until its sources or the toolchain change; where it can't be kept, it gives one answer.
 
 `rt try` compiles a program, runs it once and removes it. So it is run on a script that is a pipe, and the program is copied while it waits
 for the script."""
@@ -10,7 +9,6 @@ for the script."""
 import contextlib
 import hashlib
 import os
-import re
 import shutil
 import signal
 import subprocess
@@ -28,56 +26,6 @@ from tools.crates import NOT_BUILT, Crates, alone_in, is_being_built
 # the name by which the program calls itself
 NAME = "workbench"
 
-# the options whose files are written
-WRITTEN = ("--picture", "--sarif")
-
-# the commands that read a script
-COMMANDS = {"run", "size", "lengths", "sweep", "check"}
-
-# how the toolchain ends where the program that it ran gave an answer
-ENDED = re.compile(rb"run=ended status=(\d+)\b.*proved=no\n?\Z")
-
-
-def handed_on(words: list[str]) -> tuple[list[str], list[str], bool]:
-    """The words for a run in a folder of its own: with the whole paths of the files that are written; those that hand the script on under
-    its own name there, or that has a whole path too if it leads out of the folder; and whether standard input is the script."""
-    handed: list[str] = []
-    script = ""
-    for before, word in zip(["", *words], words):
-        name, is_joined, file = word.partition("=")
-        is_option = "--" not in handed
-        if is_option and before in WRITTEN:
-            word = whole_path(word)
-        elif is_option and is_joined and name in WRITTEN:
-            word = f"{name}={whole_path(file)}"
-        elif not script and (Path(word).is_file() or word.endswith(".oom")):
-            script = word
-        handed.append(word)
-    is_read = bool(words) and words[0] in COMMANDS and not script and {"-h", "--help"}.isdisjoint(words)
-    inside = os.path.normpath(script)
-    if not Path(script).is_file():
-        return handed, [], is_read
-    if os.path.isabs(script) or inside.startswith("..") or "=" in script:
-        return [str(Path(it).resolve()) if it == script else it for it in handed], [], is_read
-    return handed, ["--data", f"{inside}={Path(script).resolve()}"], is_read
-
-
-def whole_path(file: str) -> str:
-    """The whole path of a file. The names of no file, an empty one and `-`, stay as they are."""
-    return file if file in ("", "-") else os.path.join(os.getcwd(), file)
-
-
-def answer_of_try(room: Path, words: list[str]) -> int:
-    """Has `rt try` compile the sources in a room and run them on these words, and gives the status that they end with, if they do."""
-    words, data, is_read = handed_on(words)
-    command = ["rt", "try", *data, "--", *words]
-    script = sys.stdin.buffer.read() if is_read else b""
-    ran = subprocess.run(command, cwd=room / "crates" / PROGRAM_CRATE, input=script, stderr=subprocess.PIPE)
-    sys.stderr.buffer.write(ran.stderr)
-    ended = ENDED.search(ran.stderr)
-    return int(ended[1]) if ended else NOT_BUILT
-
-
 # where the programs are kept, below the repository, and how many: those that were used last
 FOLDER = Path("out", "unproved")
 KEPT = 3
@@ -88,11 +36,9 @@ SOURCES = "src"
 # how `rt try` calls what it compiled, and its words by which its interpreter, which runs the program before, ends at once
 WHAT_RUNS = "program"
 COMPILE_ALONE = ("--steps", "1")
-# how it says that it ran what it compiled
-RAN = "run=ended"
 
-# the folders of the toolchain whose files tell it from another one; its own identity lies beside these
-TELLING = ("bin", "c", "toolchain")
+# the file by which the toolchain says which one it is, and what loads a program
+IDENTITY = "KIT-ID"
 LOADER = "ld-linux-x86-64.so.2"
 
 # how often it is looked whether the program runs, in seconds
@@ -105,11 +51,6 @@ CHECKS = "ASAN_OPTIONS"
 class NoProgram(Exception):
     """Why the sources gave no program, in the toolchain's words."""
 
-    def __init__(self, why: str, ran: bool) -> None:
-        super().__init__(why)
-        # whether they were compiled and run all the same, so that the toolchain leaves nothing to keep
-        self.ran = ran
-
 
 class Unproved:
     """The programs that are kept for a repository, as the toolchain of a command `rt` compiles them."""
@@ -119,16 +60,9 @@ class Unproved:
         self.toolchain = command.resolve().parent.parent
         self.folder = crates.root / FOLDER
 
-    def marks(self) -> Iterator[str]:
-        """What tells the toolchain from another one: its files by size and times, since reading them would take a second."""
-        found = [self.toolchain.glob("*"), *((self.toolchain / part).rglob("*") for part in TELLING)]
-        for file in sorted(it for part in found for it in part if it.is_file()):
-            said = file.stat()
-            yield f"{file} {said.st_size} {said.st_mtime_ns} {said.st_ctime_ns}"
-
     def place(self, crates: Crates) -> Path:
         """Where the program of these sources is kept, by their checksum and the toolchain's."""
-        checksum = hashlib.sha256(("\n".join(self.marks()) + listed(crates)).encode())
+        checksum = hashlib.sha256((self.toolchain / IDENTITY).read_bytes() + listed(crates).encode())
         for crate in program_crates(crates):
             for file in sorted(it for it in (crates.folder(crate) / SOURCES).rglob("*") if it.is_file()):
                 text = file.read_bytes()
@@ -201,10 +135,9 @@ class Unproved:
                 # it removes what it has made, and ends what it runs
                 running.terminate()
         if not self.answers(target):
-            lines = messages.read_text(encoding="utf-8", errors="replace").splitlines()
-            ran = target.exists() or any(it.startswith(RAN) for it in lines)
             target.unlink(missing_ok=True)
-            raise NoProgram("; ".join(lines[-3:]) or "nothing was said", ran)
+            lines = messages.read_text(encoding="utf-8", errors="replace").splitlines()
+            raise NoProgram("; ".join(lines[-3:]) or "nothing was said")
 
     def answers(self, program: Path) -> bool:
         """Whether there is such a program, and it runs: an empty script is refused."""
@@ -276,11 +209,8 @@ def answer_unproved(why: str, crates: Crates, words: list[str]) -> int:
     say("./build proves and builds the program, in one to two hours")
     try:
         program = program or compiled(unproved)
-    except NoProgram as refused:
-        if refused.ran:
-            with unproved.room() as room:
-                return answer_of_try(room, words)
-        say(f"this way there is no answer: {refused}")
+    except NoProgram as why_none:
+        say(f"this way there is no answer: {why_none}; `rt try` in crates/{PROGRAM_CRATE} says more")
         return NOT_BUILT
     become([*unproved.words(program), *words], environment())
 

@@ -1,7 +1,7 @@
 """What the program answers of one script, and how a comparison ends where an answer is wrong."""
 
 import json
-from collections.abc import Sequence
+from collections.abc import Mapping, Sequence
 from pathlib import Path
 from typing import NamedTuple
 
@@ -43,22 +43,22 @@ class Difference(Exception):
 class Script:
     """A script, and what the program answers of it. Nothing is asked twice."""
 
-    def __init__(self, program: Path, text: bytes, options: Sequence[str] = ()) -> None:
+    def __init__(self, program: Path, text: bytes, options: Sequence[str] = (), known: Mapping[tuple[str, ...], Answer] = {}) -> None:
         self.program, self.text, self.options = program, text, options
-        self.known: dict[tuple[str, ...], Report] = {}
-        # how much was compared
+        self.known = dict(known)
+        # the keys of each object that were compared, and how much was compared in all
+        self.keys: dict[tuple[str, ...], set[str]] = {}
         self.compared = 0
 
     def ask(self, *words: str) -> Answer:
         """What the program writes where it is given these words, and the options of all answers."""
-        return answer_of(self.program, *words, *self.options, script=self.text)
+        if words not in self.known:
+            self.known[words] = answer_of(self.program, *words, *self.options, script=self.text)
+        return self.known[words]
 
     def answer(self, *words: str | int) -> Report:
-        asked = tuple(map(str, words))
-        if asked not in self.known:
-            told = self.ask(*asked)
-            self.known[asked] = Report(told.lines(), told.status)
-        return self.known[asked]
+        told = self.ask(*map(str, words))
+        return Report(told.lines(), told.status)
 
     def run(self, *words: str | int) -> Report:
         told = self.answer("run", *words)
@@ -89,6 +89,7 @@ class Script:
         (line,) = told.lines
         held = json.loads(line)
         found = held if is_all else {key: held.get(key, "no such key") for key in wanted}
+        self.keys[(*map(str, words), "--json")] = set(found)
         self.must(found == wanted and told.status == plain.status, f"`{spelled(*words)} --json` gives {found}")
 
 

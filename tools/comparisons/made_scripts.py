@@ -1,9 +1,6 @@
-"""Makes scripts with attempts of many sorts, most of which some failure makes leak, panic or be cut.
-
-Each script is a `main` that calls some parts, each within a TRAP: cells, cells that grow, texts, objects, the cleanup stack, loops,
-requests with a fallback. They are those of made-parts.txt. Most scripts have one part with a mistake, which some failure or other shows: of
-a single attempt, or only of two or more. Around the parts there may be `failnext`, `failevery`, `failnone` and heap marks. The same numbers
-give the same scripts. `compare` tries the program on them.
+"""Makes scripts for `compare`, most of which some failure makes leak, panic or be cut: a `main` that calls parts of made-parts.txt, each
+within a TRAP. Most scripts have one part with a mistake, which a single failure shows, or only two or more. The same numbers give the same
+scripts.
 """
 
 import random

@@ -1,19 +1,11 @@
-"""Compares what runs tell with what other runs and commands tell of the same: by lists, in heaps where cells move, of all lengths, and step
-by step.
+"""Compares what runs tell with what other runs and commands tell of the same.
 
-**Lists.** In a run by `--set` just the attempts of the list must fail, beside those that the script's own setting makes fail. A list must
-give the run by each other option that makes the same attempts fail, or by `--fail` and `--also`.
-
-**Moving.** Where a run by `--moving` is fine, the same run in a heap whose cells may stay, or in one of another shape, must be the same but
-for places.
-
-**Lengths.** Runs in heaps of the first and the last length of each range of the table, of one between them, and of fifty at random, half of
-them below twice the length at which the last range begins, must end as the range says. The length found must be where the first range
-begins whose runs leak or panic, with the lines of that run.
-
-**Steps.** `run --follow` must have a row for each step, and its rows must tell of the report's attempts. What they say is granted, moved,
-made longer or shorter, and freed must come to the cells that the report lists as leaks, beside that of the cleanup stack. The explanation
-must stand behind the steps. With few steps the first and the last rows must be the same, and one between them must count the others.
+**Lists.** A run by `--set` must be the run by each other option that makes the same attempts fail, and just those may fail.
+**Moving.** Where a run by `--moving` is fine, the same run in a heap whose cells may stay, or of another shape, must be the same but for
+places.
+**Lengths.** Runs in heaps of the first and the last length of each range of the table, and of some at random, must end as the range says.
+**Steps.** The rows of `run --follow` must tell of the report's attempts, and what they say of cells must come to the cells that it lists as
+leaks. With few steps the first and the last rows must be the same.
 """
 
 import random

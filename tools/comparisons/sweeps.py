@@ -1,17 +1,10 @@
 """Compares what a sweep claims with the single runs that it stands for. Each sweep is a row: what it must answer follows from its row.
 
 The numbers that a sweep makes fail are tried in the order of their count, and those of one count in the order of the numbers. The least
-whose run leaks, panics or is cut must be what the sweep tells, with just the lines of that run. Numbers before it must show nothing: all
-single ones are run, and of greater sets all, or some from all over them where these are very many. A number past the last attempt of a
-run must change nothing. Sweeps over fewer numbers must find the same as far as they go. What is found in a part of the numbers must be one
-of them and have the lines of its run, and the least of these answers must be the whole answer. `check` and `--json` must say the same.
-
-`--all` must have a line for each number up to the last attempt whose run leaks, panics or is cut, with the words for its end, and `--ends`
-one for each number; then how many leak or panic, and the lines of the least such run. So must each part, for its numbers.
-
-With few states a sweep over all sets must tell what it tells without the option, or `cut states` after a number of failures which grows
-with the states, to which `--failures` finds nothing. More states than may be met must be there: pairs of a set of at most one attempt more,
-all of them made, and of how many attempts its run has made when it asks for another.
+whose run leaks, panics or is cut must be what the sweep tells, with just the lines of that run; numbers before it must show nothing. So
+must parts, lists, and sweeps over fewer numbers as far as they go. `check` and `--json` must say the same. With few states a sweep over all
+sets must tell the same, or `cut states` after a number of failures which grows with the states, to which `--failures` finds nothing; and
+there must be more states than may be met.
 """
 
 import math
@@ -134,10 +127,6 @@ class Swept:
         self.must(self.plain == self.script.run(), f"`run {spelled(*self.sweep.run(()))}` isn't the run without failure")
         self.must(not is_bounded(self.told), f"`{self.words}` gives {self.told.shown()}, and so many states aren't met")
         self.compare_forms(self.told, self.sweep.flags, self.sweep.values(), lambda plain: number_of(plain.status, self.told))
-        # what the script says of itself in a comment, if it does
-        line = self.told.lines[0 if self.told.status == CUT else 1]
-        said = [it for it in self.script.text.decode("utf-8", "replace").splitlines() if it.startswith(f"# {self.words}: ")]
-        self.must(said in ([], [f"# {self.words}: {line}"]), f"`{self.words}` gives `{line}`, and the script says {said}")
         found = found_in(self.told)
         is_set = found is None or len(found) <= self.sweep.most and list(found) == sorted(set(found))
         self.must(is_set, f"`{self.words}` finds {found}, which is no such set")

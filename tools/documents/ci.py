@@ -3,13 +3,14 @@
 import json
 import os
 import re
+import subprocess
 import tempfile
 from collections.abc import Iterator
 from pathlib import Path
 from typing import Any
 from urllib.parse import unquote
 
-from tools.common import CUT, EXAMPLES, FINE, FOUND, READ_OR_WRITE_FAULT, ROOT, Answer, Trials, Word, answer_of, examples, program_parser
+from tools.common import CUT, EXAMPLES, FINE, FOUND, ROOT, Trials, Word, answer_of, examples, program_parser
 
 COMMANDS = (["check"], ["run"], ["run", "--fail", "3"], ["lengths"], ["sweep", "--every"], ["check", "--sets", "--moving"])
 SCHEMA = "https://docs.oasis-open.org/sarif/sarif/v2.1.0/errata01/os/schemas/sarif-schema-2.1.0.json"
@@ -19,8 +20,7 @@ FINDING = re.compile(r"^\S.*?(?::(\d+))?: ((?:leak: |panic [A-Z]+ \d+: |`main` l
 
 LEAK = "proc main\nptr a\nalloc a 16\nend\n"
 CUT_SCRIPT = "proc main\nrepeat 100000\nend\nend\n"
-# what a log doesn't replace, by what the file holds
-OTHERS = {"text": "a report\n", "nothing": "", "another log": f'{{"$schema":"{SCHEMA}","version":"2.1.0","runs":[]}}\n'}
+LONG = "proc main\n    repeat 1048576\n    end\nend\n"
 
 
 def place_faults(what: str, location: dict[str, Any], uri: str, lines: list[str]) -> Iterator[str]:
@@ -105,18 +105,9 @@ class Logs(Trials):
         uri = json.loads((self.room / "odd.sarif").read_text(encoding="utf-8"))["runs"][0]["artifacts"][0]["location"]["uri"]
         self.check(unquote(uri) == f"file://{odd}", f"an odd name: {uri}")
 
-    def check_kept(self) -> None:
-        """What isn't a log of the program is kept, and a log of it is replaced."""
-        plain = self.run("run", script=LEAK)
-        for name, held in OTHERS.items():
-            file = self.room / name
-            file.write_text(held, encoding="utf-8")
-            message = f"workbench: {file}: it exists and is not a log of the workbench, so it is left as it is\n"
-            answer = self.run("run", "--sarif", file, script=LEAK)
-            wanted = Answer(plain.output, plain.messages + message.encode(), READ_OR_WRITE_FAULT)
-            self.check(answer == wanted and file.read_text(encoding="utf-8") == held, f"a log in {name}: {answer}")
-        file = self.room / "replaced.sarif"
-        texts = []
+    def check_replaced(self) -> None:
+        """A log of the program is replaced as a whole."""
+        file, texts = self.room / "replaced.sarif", []
         for script in (CUT_SCRIPT, LEAK, CUT_SCRIPT):
             self.run("run", "--sarif", file, script=script)
             texts.append(file.read_text(encoding="utf-8"))
@@ -127,124 +118,72 @@ def check_logs(words: list[str]) -> int:
     """Has the built program write SARIF logs, and checks what they hold.
 
     The logs of all examples, by several commands, must keep the rules of SARIF 2.1.0 that matter to a reader. They must have one result for
-    each finding on standard error, with its words and its line, and the answer must be the one without a log. A log replaces only a log of
-    the program; where it can't, the status is 5 and every file is as before.
+    each finding on standard error, with its words and its line, and the answer must be the one without a log. A log replaces a log as a
+    whole; that it replaces nothing else, `pictures` looks.
     """
     given = program_parser(check_logs.__doc__).parse_args(words)
     with tempfile.TemporaryDirectory() as folder:
         logs = Logs(given.program, Path(folder))
         logs.check_examples()
-        logs.check_kept()
+        logs.check_replaced()
     return logs.end()
 
 
-CHECK, PARTS, LENGTHS = (EXAMPLES / "ci" / it for it in ("check-folder", "sweep-parts", "required-lengths.txt"))
-
+LENGTHS = EXAMPLES / "ci/required-lengths.txt"
 REJECTED, MISSING, COMMAND_LINE = 2, 5, 6
-# what is asked of a sweep in parts: of scripts that show something by a number, by a rate, by a pair, and by nothing
-SWEPT = ("second-phase-leaks.oom", "fallback-leaks.oom", "clean-up-fails.oom", "holes.oom")
-FLAGS = ((), ("--every",), ("--pairs",), ("--all",), ("--every", "--all"))
-# how the words of a script begin that isn't as the baseline has it
-FAULTS = ("grown", "missing", "not in")
-
-SMALL = "proc main\n    ptr name\n    alloc name 10\n    free name\nend\n"
-LONG = "proc main\n    repeat 1048576\n    end\nend\n"
-BASELINE, SETS = "--baseline lengths.txt", "4,5,6,7,8,9,10,11,12,13"
-# the faults of a folder, one after the other: what a script is then, an example of its name where nothing is said, and none where it goes;
-# options, the place of a line, that line, and the status. With --quick single failures and lengths are asked for alone, which pass over a
-# leak that more failures show
-STEPS: list[tuple[str, str | None, str, int, str, int]] = [
-    ("inner/small.oom", SMALL.replace("10", "1000"), BASELINE, 1, "inner/small.oom: required 1168, set none, grown from 176", FOUND),
-    ("second-phase-leaks.oom", "", BASELINE, 3, "second-phase-leaks.oom: required 256, number 3, not in the baseline", FOUND),
-    ("album-leaks.oom", "", "--quick", 0, "album-leaks.oom: required 2224, number none, length none", FOUND),
-    ("album-leaks.oom", "", "--quick", -1, "second-phase-leaks.oom: required 256, number 3, length 192", FOUND),
-    ("album-leaks.oom", "", "", 0, f"album-leaks.oom: required 2224, set {SETS}", FOUND),
-    ("album-leaks.oom", None, BASELINE, 0, "holes.oom: required 560, set none", FOUND),
-    ("retry.oom", "proc main\n    alloc\nend\n", BASELINE, 2, "retry.oom: refused 3 line 2", REJECTED),
-    ("long.oom", LONG, BASELINE, 2, "long.oom: cut 0 budget, not in the baseline", CUT),
-    ("holes.oom", None, f"{BASELINE} --jobs 1", 0, "holes.oom: missing", MISSING),
+HOLES, SMALL, RETRY = "holes.oom: required 560, set none", "inner/small.oom: required 176, set none", "retry.oom: required 592, set none"
+NUMBER = "second-phase-leaks.oom: required 256, number 3"
+CHECKED = "check-folder scripts --baseline lengths.txt"
+# what stands before each line of bash
+COMMANDS_OF_CI = """
+workbench() { "$WORKBENCH" "$@"; }
+check-folder() { "$EXAMPLES/ci/check-folder" "$@"; }
+sweep-parts() { "$EXAMPLES/ci/sweep-parts" "$@"; }
+copy() { for it; do cp "$EXAMPLES/$it.oom" scripts; done; }
+"""
+# what is made of a folder with scripts, one after the other, by lines of bash; the lines that are printed of it, and the status. With
+# --quick single failures and lengths are asked for alone, which pass over a leak that more failures show
+FOLDER: list[tuple[str, list[str], int]] = [
+    (f"mkdir -p scripts/inner; copy holes retry; cp small.oom scripts/inner; {CHECKED} --write-baseline 2>&1", [HOLES, SMALL, RETRY], FINE),
+    (f"head -n 2 lengths.txt; {CHECKED} 2>&1", ["560 holes.oom", "176 inner/small.oom", HOLES, SMALL, RETRY], FINE),
+    (
+        f"sed -i s/10/1000/ scripts/inner/small.oom; {CHECKED}",
+        [HOLES, "inner/small.oom: required 1168, set none, grown from 176", RETRY], FOUND,
+    ),
+    (f"copy second-phase-leaks; {CHECKED} 2>said | tail -n 1", [f"{NUMBER}, not in the baseline"], FOUND),
+    ("grep -o 'second-phase-leaks.oom:16: leak: ' said | sed -n 1p", ["second-phase-leaks.oom:16: leak: "], FINE),
+    (
+        "copy album-leaks; check-folder scripts --quick | sed -n '1p;$p'",
+        ["album-leaks.oom: required 2224, number none, length none", f"{NUMBER}, length 192"], FOUND,
+    ),
+    ("check-folder scripts | sed -n 1p", ["album-leaks.oom: required 2224, set 4,5,6,7,8,9,10,11,12,13"], FOUND),
+    (f"rm scripts/album-leaks.oom; {CHECKED} | sed -n 1p", [HOLES], FOUND),
+    (f"printf 'proc main\nalloc\nend\n' > scripts/retry.oom; {CHECKED} | sed -n 3p", ["retry.oom: refused 3 line 2"], REJECTED),
+    (f"cp long.oom scripts; {CHECKED} | sed -n 3p", ["long.oom: cut 0 budget, not in the baseline"], CUT),
+    (f"rm scripts/holes.oom; {CHECKED} --jobs 1 | sed -n '1p;$='", ["holes.oom: missing", "5"], MISSING),
+    (
+        "copy holes album-leaks; check-folder scripts --quick > plain; check-folder scripts --quick --sarif all.sarif | diff plain -",
+        [], CUT,
+    ),
+    # what can't be done is a fault of the command line, and leaves the baseline as it is
+    ("cp lengths.txt before; check-folder none", [], COMMAND_LINE),
+    *((f"check-folder scripts {it}", [], COMMAND_LINE) for it in ("--write-baseline", "--jobs 0", "--baseline none")),
+    ("check-folder scripts --baseline scripts/retry.oom", [], COMMAND_LINE),
+    ("WORKBENCH=none check-folder scripts", [], COMMAND_LINE),
+    (f"ln -s none scripts/unreadable.oom; {CHECKED} --write-baseline > all", [], MISSING),
+    ("rm scripts/unreadable.oom; diff before lengths.txt", [], FINE),
+    ("sweep-parts --parts 0 scripts/holes.oom", [], COMMAND_LINE),
+    ("copy fallback-leaks clean-up-fails", [], FINE),
+    # a sweep in parts prints what a whole one does: of scripts that show something by a number, by a rate, by a pair, and by nothing; and
+    # where there is no sweep
+    *(
+        (f"workbench sweep {it} > whole; echo $? >> whole; (sweep-parts {it} --parts 3; echo $?) | diff whole -", [], FINE)
+        for script in ("second-phase-leaks", "fallback-leaks", "clean-up-fails", "holes", "retry", "long")
+        for it in (f"{flags} scripts/{script}.oom" for flags in ("", "--every", "--pairs", "--all", "--every --all"))
+    ),
 ]
-
-
-class ForCI(Trials):
-    def put(self, name: str, script: str | None = "") -> Path:
-        """Writes a script into the folder; an example of its name where there is no text, and none where it goes."""
-        file = self.room / "scripts" / name
-        file.parent.mkdir(parents=True, exist_ok=True)
-        file.unlink() if script is None else file.write_text(script or (EXAMPLES / name).read_text(encoding="ascii"), encoding="ascii")
-        return file
-
-    def call(self, *words: str | Path, tool: Path = CHECK, program: Path | None = None, room: Path | None = None) -> Answer:
-        """What `check-folder` says on these words, or the other script, in the folder above the scripts."""
-        return answer_of(tool, *words, cwd=room or self.room, env=dict(os.environ, WORKBENCH=str(program or self.program)), seconds=None)
-
-    def try_examples(self) -> None:
-        """Whether all examples have the required lengths that the baseline names, and no others are there."""
-        told = self.call("examples", "--baseline", LENGTHS, room=ROOT)
-        self.expect("the status of the examples", told.status, FOUND)
-        self.expect("how many examples have a line", len(told.lines()), len(examples()))
-        rows = (line.split(" ", 1) for line in LENGTHS.read_text(encoding="ascii").splitlines())
-        wanted = {f"examples/{name}": length for length, name in rows}
-        for line in told.lines():
-            name, _, said = line.partition(": ")
-            words = [it for it in said.split(", ") if it.startswith(("required", *FAULTS))]
-            self.expect(f"what the baseline says of {name}", words, [f"required {wanted.get(name)}"])
-
-    def try_baseline(self) -> None:
-        """Whether a baseline is written, and whether a folder that is as it was passes."""
-        for name, script in (("holes.oom", ""), ("retry.oom", ""), ("inner/small.oom", SMALL)):
-            self.put(name, script)
-        told = self.call("scripts", *BASELINE.split(), "--write-baseline")
-        self.expect("a folder without faults", told.status, FINE)
-        self.expect("what is said of it beside its lines", told.messages, b"")
-        wanted = "560 holes.oom\n176 inner/small.oom\n"
-        self.expect("the baseline", (self.room / "lengths.txt").read_text(encoding="utf-8")[: len(wanted)], wanted)
-        self.expect("the folder as it was", self.call("scripts", *BASELINE.split()), told)
-
-    def try_faults(self) -> None:
-        """Whether each fault of a folder has its line, and its status the whole."""
-        for name, script, options, at, line, status in STEPS:
-            self.put(name, script)
-            told = self.call("scripts", *options.split())
-            self.expect(f"{name} with {options}", told.lines()[at], f"scripts/{line}")
-            self.expect(f"the status of {name} with {options}", told.status, status)
-            if name == "second-phase-leaks.oom":
-                self.expect("its explanation", b"second-phase-leaks.oom:16: leak: " in told.messages, True)
-        self.expect("all lines", len(told.lines()), 5)
-
-    def try_log(self) -> None:
-        """Whether one log has what was found in all scripts, by the rules that it names, and whether the lines are those without it."""
-        for name in ("second-phase-leaks.oom", "album-leaks.oom"):
-            self.put(name)
-        told = self.call("scripts", "--quick", "--sarif", "all.sarif")
-        self.expect("the lines beside a log", told, self.call("scripts", "--quick"))
-        (run,) = json.loads((self.room / "all.sarif").read_text(encoding="utf-8"))["runs"]
-        rules = [it["id"] for it in run["tool"]["driver"]["rules"]]
-        self.expect("the rules of the log", sorted(rules), ["cut", "leak", "left"])
-        found = [(rules[it["ruleIndex"]], it["locations"][0]["physicalLocation"]["artifactLocation"]) for it in run["results"]]
-        wanted = [("cut", "long"), ("left", "second-phase-leaks"), ("leak", "second-phase-leaks")]
-        self.expect("the results of the log", found, [(rule, {"uri": f"scripts/{name}.oom"}) for rule, name in wanted])
-
-    def try_parts(self) -> None:
-        """Whether a sweep in parts prints what a whole one does, also where there is no sweep."""
-        scripts = [*map(self.put, SWEPT), *(self.room / "scripts" / name for name in ("retry.oom", "long.oom"))]
-        for script in scripts:
-            for flags in FLAGS:
-                ran = self.run("sweep", *flags, script)
-                told = self.call(*flags, "--parts", "3", script, tool=PARTS)
-                self.expect(f"{script.name} {' '.join(flags)} in parts", (told.output, told.status), (ran.output, ran.status))
-        self.expect("no parts", self.call("--parts", "0", scripts[0], tool=PARTS).status, COMMAND_LINE)
-
-    def try_words(self) -> None:
-        """Whether what can't be done is a fault of the command line, and leaves the baseline as it is."""
-        before = (self.room / "lengths.txt").read_bytes()
-        for words in ("", "--write-baseline", "--jobs 0", "--baseline none", "--baseline scripts/retry.oom"):
-            told = self.call(*(["scripts", *words.split()] if words else ["none"]))
-            self.expect(words or "no folder", told.status, COMMAND_LINE)
-        self.expect("no program", self.call("scripts", program=self.room / "no-such-file").status, COMMAND_LINE)
-        (self.room / "scripts" / "unreadable.oom").symlink_to("no-such-file")
-        self.expect("a link to nothing", self.call("scripts", *BASELINE.split(), "--write-baseline").status, MISSING)
-        self.expect("the baseline after these", (self.room / "lengths.txt").read_bytes(), before)
+# the results of the log that was written of that folder: their rules, and their files
+RESULTS = [("cut", "long"), ("left", "second-phase-leaks"), ("leak", "second-phase-leaks")]
 
 
 def try_examples_for_ci(words: list[str]) -> int:
@@ -257,10 +196,29 @@ def try_examples_for_ci(words: list[str]) -> int:
     parser = program_parser(try_examples_for_ci.__doc__)
     parser.add_argument("--write", action="store_true", help="write the required lengths of the examples")
     given = parser.parse_args(words)
-    with tempfile.TemporaryDirectory() as room:
-        tests = ForCI(given.program, Path(room))
-        if given.write:
-            return int(tests.call("examples", "--baseline", LENGTHS, "--write-baseline", room=ROOT).status > CUT)
-        for part in (tests.try_examples, tests.try_baseline, tests.try_faults, tests.try_log, tests.try_parts, tests.try_words):
-            part()
+    world, check = os.environ | {"WORKBENCH": str(given.program), "EXAMPLES": str(EXAMPLES)}, EXAMPLES / "ci/check-folder"
+    checked: list[Word] = ["examples", "--baseline", LENGTHS]
+    if given.write:
+        return int(subprocess.run([check, *checked, "--write-baseline"], cwd=ROOT, env=world).returncode > CUT)
+    with tempfile.TemporaryDirectory() as folder:
+        tests, room = Trials(given.program), Path(folder)
+        told = answer_of(check, *checked, cwd=ROOT, env=world, seconds=None)
+        tests.expect("the status of the examples", told.status, FOUND)
+        rows = (line.split(" ", 1) for line in LENGTHS.read_text(encoding="ascii").splitlines())
+        wanted, found = {f"examples/{name}: required {length}" for length, name in rows}, {it.partition(", ")[0] for it in told.lines()}
+        tests.expect("how many examples have a line", len(found), len(examples()))
+        for it in sorted(wanted | found):
+            tests.expect(it, (it in found, it in wanted), (True, True))
+        for name, text in (("small", "proc main\n    ptr name\n    alloc name 10\n    free name\nend\n"), ("long", LONG)):
+            (room / f"{name}.oom").write_text(text, encoding="ascii")
+        for line, lines, status in FOLDER:
+            shell = ["bash", "-o", "pipefail", "-c", COMMANDS_OF_CI + line]
+            ran = subprocess.run(shell, cwd=room, env=world, stdout=subprocess.PIPE, stderr=subprocess.DEVNULL, text=True)
+            said = [it.removeprefix("scripts/") for it in ran.stdout.splitlines()]
+            tests.expect(line, (said, ran.returncode), (lines, status))
+        (run,) = json.loads((room / "all.sarif").read_text(encoding="utf-8"))["runs"]
+        rules = [it["id"] for it in run["tool"]["driver"]["rules"]]
+        tests.expect("the rules of the log", sorted(rules), ["cut", "leak", "left"])
+        results = [(rules[it["ruleIndex"]], it["locations"][0]["physicalLocation"]["artifactLocation"]) for it in run["results"]]
+        tests.expect("the results of the log", results, [(rule, {"uri": f"scripts/{name}.oom"}) for rule, name in RESULTS])
     return tests.end()

@@ -10,10 +10,8 @@ A block begins with such a comment and ends with `<!-- end -->`; what is between
     <!-- quote crates/wb_size/src/sizing.rt size Sizing::new.ok -->        contracts of functions, of the second one clause alone
     <!-- file examples/leak.oom -->  <!-- file examples/leak.oom 3-9 -->   a file, or some of its lines
     <!-- case guide/two-cells.run -->                                      the script of a worked case
-    <!-- files \\bHasRoom\\b -->                                           the files that name something, without tests and comments
     <!-- laws crates/wb_runs/src/set_laws.rt -->                          the laws of files, with what is said of each
-    <!-- bodies -->  <!-- bodies wb_size/sizing wb_cells/bits -->          wrong bodies: how many each crate has; those of sources, by name
-    <!-- crates -->  <!-- dependencies -->                                 a row a crate: what it is and what carries it; what is below it
+    <!-- crates -->                                                        a row a crate: what it is and what carries its promises
     <!-- number wrong-bodies -->1<!-- end -->                              in a sentence; also open, functions, contracts
 
 Two kinds are only looked at. `<!-- promises -->` is a table whose rows name public calls with clauses of their contracts, as in
@@ -39,16 +37,12 @@ from typing import NamedTuple, NoReturn
 from tools.common import ROOT, Tally, answer_of, program_parser
 from tools.crates import Crates
 from tools.edits.verdicts import number_of_open
-from tools.edits.wrong_body_edits import HEAD, MUST_FAIL, WRONG_BODIES, WrittenEdit, written_edits
-from tools.worked_cases import case_called
+from tools.edits.wrong_body_edits import HEAD, MUST_FAIL, WRONG_BODIES, written_edits
+from tools.worked_cases import SUFFIX, case_called
 
 IMPL = re.compile(r"(?:impl|pub trait|trait)\b(?:<[^{]*?>)? (?:[^{]*? for )?(?:\w+::)*(\w+)")
 CLAUSE = re.compile(r" *(requires|ensures)(?: (\w+))? \{")
 PROMISE = re.compile(r"`(\w+)::((?:\w+::)*)(\w+)`: ((?:`\w+`(?:, )?)+)")
-COMMENT = re.compile(r"\s*(?://|--|#)")
-# the files that change with the language, by their crate or folder: the endings that they have, and where no such file stands
-SEARCHED = re.compile(r"(crates/\w+|tools|bench)/((?:.*/)?[^.]*(?:\.(?:rt|antt|py|rs))?)")
-APART = re.compile(r"_tests/|/(?:wrong-bodies|must-fail|tests|out|__pycache__)[/.]|/WorkedCases")
 
 
 class Function(NamedTuple):
@@ -88,23 +82,6 @@ def functions_of(crate: str) -> list[Function]:
     return [it for path in files for it in functions_in(path.read_text(encoding="utf-8"))]
 
 
-@cache
-def searched() -> dict[tuple[str, str], str]:
-    """The files that change with the language, by their crate or folder and their place in it, without comments."""
-    walked = sorted(it for part in ("crates", "tools", "bench") for it in (ROOT / part).rglob("*") if it.is_file())
-    places = ((it, it.relative_to(ROOT).as_posix()) for it in walked)
-    found = {place.groups(): path for path, name in places if not APART.search(name) and (place := SEARCHED.fullmatch(name))}
-    return {(in_, name): without_comments(path.read_text(encoding="utf-8", errors="replace")) for (in_, name), path in found.items()}
-
-
-def without_comments(text: str) -> str:
-    return "\n".join(it for it in text.splitlines() if not COMMENT.match(it))
-
-
-def edits(crate: str) -> list[WrittenEdit]:
-    return written_edits(Crates().folder(crate), [WRONG_BODIES, MUST_FAIL])
-
-
 def quote(words: str) -> str:
     path, *names = words.split()
     read = contract_in if path.endswith(".rt") else definition_in
@@ -116,7 +93,7 @@ def definition_in(text: str, name: str) -> str:
     """A definition with its clauses, which begin with its name alone; indented lines and closing brackets go on with what is above."""
     first = re.compile(rf"((?:(?:abbrev|pub|unfoldable|record|module|data) )*){re.escape(name)}(?![^\s(){{}}\[\],;.])")
     found, is_part = list[list[str]](), False
-    for line in filter(str.strip, without_comments(text).splitlines()):
+    for line in (it for it in text.splitlines() if it.strip() and not it.lstrip().startswith("--")):
         if line[0] not in " })]":
             begun = first.match(line)
             is_part = begun is not None
@@ -143,33 +120,9 @@ def case(place: str) -> str:
     return fenced(case_called(place).script.decode().rstrip("\n"))
 
 
-def files(pattern: str) -> str:
-    found: dict[str, list[str]] = {}
-    for (in_, name), text in searched().items():
-        if re.search(pattern, text):
-            found.setdefault(in_, []).append(name)
-    return table("In | Files", ((f"`{in_}`", code_names(names)) for in_, names in found.items()))
-
-
 def laws(words: str) -> str:
     found = [it for name in words.split() for it in functions_in(text_of(name)) if it.has_contract()]
     return table("Law | What it says", ((f"`{it.name}`", begun(it.about, "  ")) for it in found))
-
-
-def bodies(words: str) -> str:
-    if not words:
-        return table("Crate | Wrong bodies", ((f"`{it}`", str(len(edits(it)))) for it in Crates().lines if edits(it)))
-    found: dict[str, list[str]] = {}
-    for crate, _, source in (it.partition("/") for it in words.split()):
-        changed = [it for it in edits(crate) if it.changes and it.changes[0][0] == f"src/{source}.rt"]
-        for it in changed or missing(f"wrong body of {crate}/{source}"):
-            found.setdefault(it.functions, []).append(missing(f"good edit {it.name}") if it.fault else it.name)
-    return table("Function | Wrong bodies of it", ((f"`{it}`", code_names(names)) for it, names in found.items()))
-
-
-def dependencies(words: str) -> str:
-    below = ((it, line.partition(":")[2].split()) for it, line in Crates().lines.items())
-    return table("Crate | What it is | Depends on", ((f"`{it}`", about(it), code_names(names) or "nothing") for it, names in below))
 
 
 def proved_crates() -> list[str]:
@@ -189,13 +142,13 @@ def number(words: str) -> str:
     found: dict[str, Callable[[], int]] = {
         "functions": lambda: sum(len(functions_of(it)) for it in proved_crates()),
         "contracts": lambda: sum(one.has_contract() for it in proved_crates() for one in functions_of(it)),
-        "wrong-bodies": lambda: sum(len(edits(it)) for it in Crates().lines),
+        "wrong-bodies": lambda: sum(len(written_edits(Crates().folder(it), [WRONG_BODIES, MUST_FAIL])) for it in Crates().lines),
         "open": number_of_open,
     }
     return str(found[words]() if words in found else missing(f"number of {words}"))
 
 
-BLOCKS: list[Callable[[str], str]] = [quote, file, case, files, laws, bodies, dependencies, crates, number]
+BLOCKS: list[Callable[[str], str]] = [quote, file, case, laws, crates, number]
 WRITERS = {it.__name__: it for it in BLOCKS}
 
 
@@ -321,6 +274,12 @@ def sentences(text: str) -> Iterator[list[str]]:
             yield [it for it in sentence.split() if re.search(rf"[\w{IN_CODE}]", it)]
 
 
+def is_script(named: Path) -> bool:
+    """Whether a path names a script of a group of cases, as if the group were a folder."""
+    group = named.with_suffix("").parent.with_suffix(SUFFIX)
+    return group.exists() and f"\n=== {named.stem}\n" in group.read_text(encoding="utf-8")
+
+
 def faults_of(page: Path, text: str) -> Iterator[str]:
     """What is wrong with a page beside its blocks. The name of a page stands for one of the same folder, or begins at the top of the
     repository."""
@@ -328,7 +287,7 @@ def faults_of(page: Path, text: str) -> Iterator[str]:
     lines = OTHER.sub("", BLOCK.sub("", text)).splitlines()
     yield from (f"a line of {len(it)} columns: {it[:40]} .." for it in lines if len(it) > WIDEST)
     yield from (f"there is no {it}" for _, it in LINK.findall(text) if it and "://" not in it and not (page.parent / it).exists())
-    yield from (f"there is no file {it}" for it in FILE.findall(text) if not (ROOT / it).exists())
+    yield from (f"there is no file {it}" for it in FILE.findall(text) if not (ROOT / it).exists() and not is_script(ROOT / it))
     prose = " ".join(text.split())
     before = [(name, title) for title, name in BEFORE.findall(prose)]
     here = [(page.name, it) for it in HERE.findall(CODE.sub(IN_CODE, OTHER.sub("\n", FENCED.sub("\n", text))))]

@@ -1,9 +1,6 @@
-"""Compares a picture with the reports of the same runs: what its shapes are titled with, and where they are.
-
-Each run of a picture has a heading that says by which rule it is, so the run can be made by itself. All attempts of the run, all granted
-cells, its leaks and its end must be in the picture, and no others. Cells must be where their lengths, places and steps are. If the end of
-a run is drawn once more, it must show the last attempts, and what is there from then on. The legend must name what is seen and nothing
-else, and bands must have one scale. It is for pictures of runs in which each attempt and each row of a table has a shape of its own.
+"""Compares a picture with the reports of the same runs: what its shapes are titled with, and where they are. It is for pictures of runs in
+which each attempt and each row of a table has a shape of its own. Each run of a picture has a heading that says by which rule it is, so the
+run can be made by itself. The legend must name what is seen and nothing else, and bands must have one scale.
 """
 
 import re

@@ -4,7 +4,8 @@ The pictures of all examples, and of some more scripts, are compared with the re
 docs/pictures, and must be those that the program draws, byte for byte; --write writes them anew. These are the pictures that pages show,
 and some of other kinds. A file of scripts says which shapes their pictures must have (pictured-scripts.txt), and a table how many steps
 their columns are. Each picture must be well-formed XML of a few elements, and the report, the messages and the status beside it those
-without a picture. Where it can't be written, no file may be another than before. Pictures of long runs must be no longer than 5 MiB.
+without a picture. Where it or a SARIF log can't be written, no file may be another than before. Pictures of long runs must be no longer
+than 5 MiB.
 """
 
 import os
@@ -16,11 +17,13 @@ from pathlib import Path
 from typing import Any
 
 from tools.common import DOCS, READ_OR_WRITE_FAULT, ROOT, TOOLS, Answer, Trials, Word, examples, program_parser
+from tools.documents.ci import LEAK, SCHEMA
 from tools.documents.pages import pages
 from tools.documents.picture_reports import Picture, faults_of
 
-# what a picture doesn't replace, by what the file holds
+# what a picture or a log doesn't replace, by what the file holds
 NO_PICTURES = {"text": "a report\n", "nothing": "", "too little": "<svg", "another element": "<svgs>", "XML": '<?xml version="1.0"?><svg/>'}
+NO_LOGS = {"a text": "a report\n", "no byte": "", "another log": f'{{"$schema":"{SCHEMA}","version":"2.1.0","runs":[]}}\n'}
 SCRIPT_ITSELF, REPORT_ITSELF = "it is the script, which a picture does not replace", "the report or the messages go there"
 NO_DIRECTORY, NO_FILE = "no such directory", "it is not a regular file"
 # why no picture is put into files, by their names: some begin at the top of the repository, others in the folder
@@ -34,8 +37,7 @@ UNWRITABLE_HERE = {
     **{"pipe": NO_FILE, "": "it is a directory", "loop": "its symbolic links form a loop"},
 }
 
-# a script, and a picture of before, which is replaced
-LEAK = "proc main\nptr a\nalloc a 16\nend\n"
+# a picture of before, which is replaced
 OLD = "<svg>old</svg>\n"
 
 KEPT = DOCS / "pictures"
@@ -79,8 +81,8 @@ class Pictures(Trials):
         self.script.write_text(LEAK, encoding="utf-8")
         self.plain = self.run("run", self.script)
 
-    def drawn(self, file: str | Path, **how: Any) -> Answer:
-        return self.run("run", "--picture", file, *([] if "stdin" in how else [self.script]), **how)
+    def drawn(self, file: str | Path, option: str = "--picture", **how: Any) -> Answer:
+        return self.run("run", option, file, *([] if "stdin" in how else [self.script]), **how)
 
     def refused(self, name: str | Path, why: str) -> Answer:
         """What must be answered where a picture can't be put into a file: the report is whole, and a message says why."""
@@ -101,12 +103,14 @@ class Pictures(Trials):
         (self.room / "another name").hardlink_to(self.script)
         (self.room / "loop").symlink_to("loop")
         os.mkfifo(self.room / "pipe")
-        for name, held in {**NO_PICTURES, "old": OLD}.items():
+        for name, held in {**NO_PICTURES, **NO_LOGS, "old": OLD}.items():
             (self.room / name).write_text(held, encoding="utf-8")
         for name, why in UNWRITABLE.items():
             self.check_left(name, why)
         for name, why in UNWRITABLE_HERE.items():
             self.check_left(self.room / name, why)
+        for name in NO_LOGS:
+            self.check_left(self.room / name, "it exists and is not a log of the workbench, so it is left as it is", option="--sarif")
         # Python ignores the signal that would end a program here, and so does what it runs
         bound: dict[str, Any] = {"restore_signals": False, "preexec_fn": lambda: resource.setrlimit(resource.RLIMIT_FSIZE, (1000, 1000))}
         for name in ("old", "never.svg"):

@@ -6,20 +6,12 @@ The files `crates/NAME/wrong-bodies/*.edits` have a line `=== src/SOURCE.rt` abo
 the old text stands once in the source. Below a line `file: src/..` the texts are of that file.
 
 A function's proof reads the contracts of what it calls, and not the bodies; so one check of a copy of the crate judges one wrong body each
-of many functions, and says of each function whether its own proof stands or only waits for another's. An edit that changes more than a
-function's body has a check of its own.
+of many functions. An edit that changes more than a function's body has a check of its own. Where a source's wrong bodies are all disproved,
+its line in wrong-bodies.txt is written. A source is open if its line is missing or no longer stands. Without a crate's name, the wrong
+bodies of all open sources are tried, and besides ten each of two crates whose lines stand, picked by the commit.
 
-A source is open if its line in wrong-bodies.txt is missing or no longer stands. Without a crate's name, the wrong bodies of all open
-sources are tried, and besides ten each of two crates whose lines stand, picked by the commit. `--all` tries all.
-Where a source's wrong bodies are all disproved, its line is written. `--only` tries the edits of that name alone, and writes no line.
-
-`--minutes N` tries for so long by the clock, a few edits of one crate at a time, the oldest source first and by turns some of those that
-are picked. A check that is running then is ended, and its edits count neither as passed nor as failed. What stays open is listed.
-`--open` lists what is open, the oldest first, and tries nothing.
-
-It prints a line for each edit. The repository's other files stay as they are. `--must-fail` tries the edits of
-`crates/NAME/must-fail/` as well, and `--logs` keeps what the checks printed. `--after-ci` takes the libraries that
-an `rt ci` of the same sources has just left in `out/`; else those that are missing are built.
+`--minutes N` tries a few edits at a time for so long, the oldest source first. A check that is running then is ended, and its edits don't
+count. What stays open is listed, and `--open` lists it too. Libraries below that are missing are built, but for `--after-ci`.
 """
 
 import argparse

@@ -1,4 +1,4 @@
-"""What counts as a failure of the gate, `./test`; how it runs tools side by side; and what it says of a run of `rt ci`."""
+"""What counts as a failure of the gate, `./test`, and how it runs tools side by side."""
 
 import contextlib
 import io
@@ -12,22 +12,11 @@ from unittest.mock import patch
 from tools import gate as gate_tools
 from tools.common import ROOT, Tally
 from tools.comparisons.compare import KINDS
-from tools.crates import Crates
 from tools.door import COMMANDS, said_by
-from tools.gate import Outcome, ProofChain, ToolRun, ToolRuns
+from tools.gate import Outcome, ToolRun, ToolRuns
 from tools.tests import InRoom
 
 BUSY = "import time\nwhile time.process_time() < 0.3: pass\nprint('1 passed, 0 failed')"
-# says that it runs, and waits for another one that does so: a folder, its own file there, and the other's
-MEETING = """
-import sys, time
-from pathlib import Path
-Path(sys.argv[1], sys.argv[2]).touch()
-until = time.monotonic() + 60
-while not Path(sys.argv[1], sys.argv[3]).exists() and time.monotonic() < until:
-    time.sleep(0.01)
-print(f"{int(time.monotonic() < until)} passed, 0 failed")
-"""
 # programs in the place of tools, by their commands
 CODE = {
     "right": "print('one'); print('2 passed, 0 failed')",
@@ -38,10 +27,9 @@ CODE = {
     "waiting": "import time; time.sleep(0.3); print('1 passed, 0 failed')",
     "told": "import os; print(os.environ['RT_JOBS'], 'processors'); print('1 passed, 0 failed')",
     "parent": f"import subprocess, sys; sys.exit(subprocess.run([sys.executable, '-c', {BUSY!r}]).returncode)",
-    "meeting": MEETING,
+    # waits for another one that runs beside it
+    "meeting": "import signal, sys; signal.alarm(60); open(*sys.argv[1:]).close(); print('1 passed, 0 failed')",
 }
-
-CRATES = "# from the program down\nmain: page run kit_crate\npage: run word\nrun: heap word\nheap: word\nword:\n"
 
 
 def the_gate() -> ModuleType:
@@ -91,29 +79,27 @@ class OfTheGate(InRoom):
         self.assertLessEqual({"failing-allocations --same", "pages --runs", *(f"compare {it}" for it in KINDS)}, set(names))
         self.assertEqual(sorted(it.split()[0] for it in self.said.getvalue().splitlines()[1:]), sorted(it.split()[0] for it in names))
 
-    def test_wrong_bodies_for_a_quarter_of_an_hour_or_all(self) -> None:
-        for is_all, last in ((False, ["--after-ci", "--minutes", "15"]), (True, ["wrong-bodies", "--after-ci", "--all"])):
-            part = next(it for it in self.gate.parts_of(Namespace(quick=False, crates=[], all=is_all)) if it.name == "wrong bodies")
-            with patch.object(self.gate, "tally", return_value=Tally(1, 0)) as tally:
-                part.run()
-            self.assertEqual((part.is_needed, tally.call_args.args[0][-3:]), (False, last))
-            self.assertEqual(tally.call_args.kwargs.get("may_be_none", False), not is_all)
-
-    def test_fewer_wrong_bodies_where_the_proofs_took_long(self) -> None:
-        for minute, last in ((0, "15"), (135, "15"), (143, "7"), (149, "1"), (150, None), (170, None)):
+    def test_how_long_wrong_bodies_are_tried(self) -> None:
+        for is_all, minute, last in (
+            *((False, 0, "15"), (False, 135, "15"), (False, 143, "7"), (False, 149, "1"), (False, 150, None), (False, 170, None)),
+            (True, 170, "--all"),
+        ):
             now = self.gate.BEGUN + 60 * minute
-            with patch.object(self.gate, "tally", return_value=Tally(1, 0)) as tally, patch.object(self.gate.time, "monotonic", lambda: now):
-                told = self.gate.wrong_bodies(False)
-            self.assertEqual((told, tally.call_args and tally.call_args.args[0][-1]), (Tally(int(last is not None), 0), last))
+            part = next(it for it in self.gate.parts_of(Namespace(quick=False, crates=[], all=is_all)) if it.name == "wrong bodies")
+            with patch.object(self.gate, "tally", return_value=Tally(1, 0)) as tally, patch("time.monotonic", lambda now=now: now):
+                told = part.run()
+            self.assertEqual((part.is_needed, told), (False, Tally(int(last is not None), 0)))
+            if last:
+                self.assertEqual(tally.call_args.args[0][3:], ["wrong-bodies", "--after-ci", *(["--minutes"] if not is_all else []), last])
+                self.assertEqual(tally.call_args.kwargs.get("may_be_none", False), not is_all)
         self.assertIn("no wrong bodies were tried", self.said.getvalue())
 
-    def test_the_chain_of_proofs(self) -> None:
+    def test_proofs_with_their_minutes(self) -> None:
         self.put("rt", "#!/bin/sh\necho 'rt: wb_basics proved'\necho '3 passed, 0 failed'\n")
         path = f"{self.room}{os.pathsep}{os.environ['PATH']}"
         with patch.dict(os.environ, PATH=path), patch.object(self.gate, "building", contextlib.nullcontext):
             self.assertEqual(self.gate.gate(), Tally(3, 0))
-        said = "(?s)rt: wb_basics proved\n3 passed, 0 failed\n.*\n    wb_basics +0.0 +0.0  waited for no crate\n"
-        self.assertRegex(self.said.getvalue(), said)
+        self.assertEqual(self.said.getvalue(), "   0.0 rt: wb_basics proved\n   0.0 3 passed, 0 failed\n")
 
     def test_what_is_tried_after_a_failure(self) -> None:
         for is_needed, first, total in (
@@ -134,19 +120,16 @@ class OfTheGate(InRoom):
             self.runs.run_all(tools, lanes)
         return self.said.getvalue(), {it.name: it.tally for it in self.runs.outcomes}
 
-    def test_what_is_shown_and_counted(self) -> None:
-        said, tallies = self.run_all(*(ToolRun((it,)) for it in ("right", "wrong", "silent", "late")))
-        for block in ("== right\none\n2 passed, 0 failed\n", "== wrong\ntwo\n4 passed, 3 failed\n", "== silent\n"):
-            self.assertIn(block, said)
-        self.assertEqual(tallies, {"right": Tally(2, 0), "wrong": Tally(4, 3), "silent": Tally(0, 1), "late": Tally(2, 1)})
+    def test_what_is_shown_and_counted_in_which_order(self) -> None:
+        said, tallies = self.run_all(*(ToolRun((it,)) for it in ("waiting", "right", "wrong", "silent", "late")), lanes=1)
+        blocks = ("waiting\n1 passed, 0 failed", "right\none\n2 passed, 0 failed", "wrong\ntwo\n4 passed, 3 failed", "silent", "late\n")
+        self.assertTrue(said.startswith("".join(f"== {it}\n" for it in blocks)[:-1]), said)
+        self.assertEqual(list(tallies.values()), [Tally(1, 0), Tally(2, 0), Tally(4, 3), Tally(0, 1), Tally(2, 1)])
 
     def test_they_run_side_by_side(self) -> None:
-        _, tallies = self.run_all(*(ToolRun(("meeting", str(self.room), *it)) for it in (("one", "two"), ("two", "one"))))
+        os.mkfifo(self.room / "pipe")
+        _, tallies = self.run_all(*(ToolRun(("meeting", str(self.room / "pipe"), it)) for it in "rw"))
         self.assertEqual(list(tallies.values()), [Tally(1, 0), Tally(1, 0)])
-
-    def test_their_order_on_one_processor(self) -> None:
-        said, _ = self.run_all(*(ToolRun((it,)) for it in ("waiting", "right", "told")), lanes=1)
-        self.assertEqual(re.findall("== (.*)", said), ["waiting", "right", "told"])
 
     def test_how_many_processors_a_tool_gets(self) -> None:
         others = [ToolRun((it,)) for it in ("right", "wrong", "silent", "busy")]
@@ -166,43 +149,3 @@ class OfTheGate(InRoom):
         # what a tool runs itself counts, and what it waits for doesn't
         self.assertEqual([worked[it] >= 0.3 for it in ("waiting", "busy", "parent")], [False, True, True])
         self.assertEqual(list(worked.values()), sorted(worked.values(), reverse=True))
-
-
-# lines of a run of `rt ci`, each with its minute; how long the run took; and some of what is said of it, without columns of blanks
-CHAINS: list[tuple[int, list[tuple[int, str]], list[str]]] = [
-    (20, [(minute, f"{name} proved") for name, minute in {"word": 2, "heap": 5, "run": 9, "page": 11, "main": 12}.items()], [
-        "word 0.0 2.0 waited for no crate", "heap 2.0 5.0 waited for word", "run 5.0 9.0 waited for heap", "page 9.0 11.0 waited for run",
-        "main 11.0 12.0 waited for page", "main 1.0", "page 2.0", "run 4.0", "heap 3.0", "word 2.0",
-        "in all 12.0, and 8.0 more until the run ended",
-    ]),
-    # a crate stands on all below its libraries too, and one that is kept ends at once
-    (8, [(3, "heap proved"), (4, "run is kept: an earlier run proved it"), (7, "word proved"), (8, "page proved")], [
-        "heap 0.0 3.0 waited for no crate", "word 0.0 7.0 waited for no crate",
-        "page 7.0 8.0 waited for word", "page 1.0", "word 7.0", "in all 8.0, and 0.0 more until the run ended",
-    ]),
-    (6, [*((1, f"{it} is kept: an earlier run on this machine proved it") for it in ("word", "heap")), (6, "run proved")], [
-        "run 0.0 6.0 waited for no crate", "run 6.0", "in all 6.0, and 0.0 more until the run ended",
-    ]),
-    # what stands on a crate doesn't wait for its tests
-    (6, [(2, "word proved"), (4, "heap proved"), (6, "heap: its tests are proved"), (5, "run proved")], [
-        "word 0.0 2.0 waited for no crate", "heap 2.0 4.0 waited for word", "heap's tests 2.0 6.0 waited for word",
-        "run 4.0 5.0 waited for heap", "heap's tests 4.0", "word 2.0", "in all 6.0, and 0.0 more until the run ended",
-    ]),
-    # where a library failed, nothing was proved
-    (2, [(2, "word NOT PROVED"), (2, "heap NOT PROVED: its library word failed")], [
-        "word 0.0 2.0 waited for no crate", "word 2.0", "in all 2.0, and 0.0 more until the run ended",
-    ]),
-    (1, [(1, it) for it in ("word::at: proved", "word: trying its must-fail edits (3)", "other proved", "note: rt: word proved")], []),
-]
-
-
-class ChainOfRun(InRoom):
-    def test_chains(self) -> None:
-        self.put("crates.txt", CRATES)
-        for minutes, heard, wanted in CHAINS:
-            chain = ProofChain(Crates(self.room))
-            for minute, line in heard:
-                chain.hear(f"rt: {line}\n", 60.0 * minute)
-            lines = list(chain.lines(60.0 * minutes))
-            self.assertEqual([" ".join(it.split()) for it in lines if it.startswith("    ")], wanted)
-            self.assertEqual(lines[0] == "no proof was done in this run, so there is no chain", not wanted)

@@ -1,61 +1,29 @@
-"""The lines of the language beside the source of `wb_lines` that they are read from, the reader of cases, and the words of C++ that
-`wb_mistakes` and the page have for them; what the files for editors make of scripts and messages; and what is said of cases as theorems:
-words that aren't known, and how theorems are called. The grammar of an editor is read by a small reader that is here: from each place of a
-line on, the rule holds that fits soonest, and of those that fit at the same place the first."""
+"""The words of the language and of C++ on pages, beside the sources that have them; what the files for editors make of scripts and of
+messages; and what is said of cases as theorems: words that aren't known, and how theorems are called. A grammar is read by a small reader
+that is here: from each place of a line on, the rule holds that fits soonest, and of those that fit at the same place the first."""
 
 import json
 import re
 import unittest
-from pathlib import Path
 from typing import Any
 
 from tools.common import DOCS, ROOT, examples
 from tools.documents import editors
-from tools.documents.editors import CONFIGURATION, EDITORS, INDENT, SCOPES, VIM, compared, read
+from tools.documents.editors import CONFIGURATION, EDITORS, SCOPES, read
 from tools.door import said_by
-from tools.language import SOURCE, Line, line_of, lines_by_kind, lines_in, words_of_roles
-from tools.terms import BLOCKS, CONDITIONS, OVERLOADED, STATEMENTS
+from tools.language import lines_by_kind
 from tools.tests import InRoom
 from tools.worked_cases import Block, Case, Group
-
-# the lines that `terms.py` reads by themselves
-APART = {"call", "callto", "return"}
 
 COUNTERPARTS = ROOT / "crates/wb_mistakes/src/counterparts.rt"
 ROW = re.compile(r"^    Counterpart\(\s*&\[(.*?)\],\s*&\[(.*?)\],\s*(\"[^\"]*\"|\w+),?\s*\),$", re.DOTALL | re.MULTILINE)
 CODE = re.compile(r"`([^`]*)`")
 
 
-class Lines(unittest.TestCase):
-    def test_some_lines(self) -> None:
-        kinds = lines_by_kind()
-        self.assertEqual(kinds["Mid"], Line("Mid", "mid", None, ("ViewName", "Readable", "Value", "Value"), None, "Plain"))
-        self.assertEqual(kinds["IfLess"], Line("IfLess", "if", "Less", ("Value", "Value"), None, "If"))
-        self.assertEqual(kinds["CallTo"], Line("CallTo", "callto", None, ("Receiver", "Procedure"), "Argument", "Plain"))
-        self.assertEqual(line_of("construct", "Construct").kind, "Constructor")
-        self.assertEqual(words_of_roles("Loop", "Declaration"), {"repeat", "trap", "ptr", "int", "buf", "view"})
-
-    def test_no_kind_is_missing(self) -> None:
-        declared = (ROOT / "crates/wb_tree/src/script_lines.rt").read_text(encoding="utf-8")
-        enum = re.search(r"pub enum LineKind \{\n(.*?)^\}", declared, re.DOTALL | re.MULTILINE)
-        assert enum
-        self.assertEqual(set(re.findall(r"^    (\w+),$", enum[1], re.MULTILINE)), set(lines_by_kind()))
-
+class Pages(unittest.TestCase):
     def test_each_word_is_on_the_page(self) -> None:
         page = (DOCS / "LANGUAGE.md").read_text(encoding="utf-8")
         self.assertEqual([it.word for it in lines_by_kind().values() if not re.search(rf"\b{it.word}\b", page)], [])
-
-    def test_a_source_without_a_row(self) -> None:
-        source = SOURCE.read_text(encoding="utf-8")
-        with self.assertRaises(LookupError):
-            list(lines_in(source.replace('        LineKind::Mid => b"mid",\n', "")))
-        with self.assertRaisesRegex(LookupError, "has no table role_of"):
-            list(lines_in(source.replace("pub fn role_of(", "pub fn roles_of(")))
-
-    def test_what_the_reader_of_cases_has_a_meaning_for(self) -> None:
-        self.assertEqual({*STATEMENTS, *OVERLOADED, *APART}, words_of_roles("Plain"))
-        self.assertEqual(set(BLOCKS), words_of_roles("Loop"))
-        self.assertEqual({kind for _, kind in CONDITIONS.values()}, {it.kind for it in lines_by_kind().values() if it.role == "If"})
 
     def test_counterparts(self) -> None:
         source, kinds = COUNTERPARTS.read_text(encoding="utf-8"), lines_by_kind()
@@ -74,16 +42,6 @@ class Lines(unittest.TestCase):
 GRAMMAR = json.loads(read()[editors.GRAMMAR])
 PACKAGE = json.loads((EDITORS / "vscode/package.json").read_text(encoding="utf-8"))
 ILLEGAL = "invalid.illegal.oom"
-# changes of the files, each of which is seen
-CHANGES = {
-    VIM: {
-        **{r"add\|alloc\|": r"add\|allocs\|", r"(end\)\ze\s*$": r"(end\)\ze\%(\s\|$\)", r"\|null": ""},
-        **{"oomBody": "oomClass", "syntax match oomBlock": '" syntax match oomBlock'},
-    },
-    editors.GRAMMAR: {"add|alloc|": "add|allocs|", "|null": "", "{1})": "{0})", "keyword.control.oom": "keyword.other.oom", '"3"': '"4"'},
-    CONFIGURATION: {r"if(?=\\s|$)|": "", r"|end(?=\\s*$)": ""},
-    INDENT: {r"if\%(\s\|$\)\|": "", r"\|end\s*$": r"\|end\%(\s\|$\)", "let s:less": '" let s:less'},
-}
 
 Rule = dict[str, Any]
 Token = tuple[str, str]
@@ -143,17 +101,6 @@ MESSAGES: dict[str, tuple[str, str, str] | None] = {
 
 
 class Files(unittest.TestCase):
-    def test_files_that_differ(self) -> None:
-        def differing(texts: dict[Path, str]) -> list[Path]:
-            return [file for file, wanted, found in compared(texts) if wanted != found]
-
-        self.assertEqual(differing(read()), [])
-        for file, changes in CHANGES.items():
-            for old, new in changes.items():
-                with self.subTest(file=file.name, old=old, new=new):
-                    self.assertIn(old, read()[file])
-                    self.assertEqual(differing(read() | {file: read()[file].replace(old, new)}), [file])
-
     def test_colours(self) -> None:
         for line, wanted in LINES.items():
             self.assertEqual({text.strip(): scope for text, scope in tokens(line)}, wanted, line)
@@ -191,23 +138,16 @@ REPORT = "attempt 1 length 144 place 0 granted\nended\nleaks 0\nsteps 1\n"
 CASES = [
     (SCRIPT.replace("free p", "wait p"), REPORT, "run", "some/part/plain.run: KeyError('wait')"),
     (SCRIPT.replace("free p", "free p q"), REPORT, "run", "some/part/plain.run: ValueError"),
-    (SCRIPT.replace("free p", "free"), REPORT, "run", "some/part/plain.run: ValueError"),
-    (SCRIPT.replace("free p", "free 0x10"), REPORT, "run", "KeyError('0x10')"),
     (SCRIPT.replace("free p", "if same p p\nend"), REPORT, "run", "KeyError('same')"),
-    (SCRIPT.replace("free p", "new p Other"), REPORT, "run", "KeyError('Other')"),
     (SCRIPT.replace("proc main", "task main p"), REPORT, "run", "KeyError('task')"),
     ("class C 0\nbase B\nend\n" + SCRIPT, REPORT, "run", "some/part/plain.run: "),
     (SCRIPT, REPORT.replace("ended", "stopped"), "run", "KeyError('stopped')"),
-    (SCRIPT, REPORT.replace("granted", "delayed"), "run", "KeyError('delayed')"),
     (SCRIPT, "note time 1\n" + REPORT, "run", "KeyError('time')"),
     (SCRIPT, REPORT.replace("ended\nleaks 0", "panic OTHER 1"), "run", "KeyError('OTHER')"),
-    (SCRIPT, REPORT.replace("ended\nleaks 0", "cut clock"), "run", "KeyError('clock')"),
-    (SCRIPT, "from 0 ended\n", "lengths", "some/part/plain.run: IndexError"),
     (SCRIPT, "from 0 stopped\nlength none\n", "lengths", "KeyError('stopped')"),
     (SCRIPT, "attempts 1\nnumber 1 ended\n", "sweep --ends --all", "unrecognized arguments: --ends"),
     (SCRIPT, "attempts 1\nnumber 1 ended\n", "sweep --all", "some/part/plain.run: ValueError"),
     (SCRIPT, "cut 2 4 budget\n", "sweep --pairs", "1 theorems"),
-    (SCRIPT, REPORT, "walk", "some/part/plain.run: error: argument task"),
 ]
 
 

@@ -1,19 +1,16 @@
-"""That a stale page fails: each check once, on a page that is right but for one thing; and what is seen where the man page or the
-completions differ from the help, and what bash completes by its file."""
+"""That a stale page fails: each check once, on a page that is right but for one thing; what is seen where the help is too wide; and what
+bash completes by its file."""
 
-import re
 import subprocess
 import sys
 from pathlib import Path
 from unittest.mock import patch
 
 from bench.tables import measured_on, table_of, with_table
-from tools.common import DOCS
-from tools.documents.help_files import BASH, FISH, MAN_PAGE, ZSH, compared, help_of, read, width_faults
+from tools.documents.help_files import BASH, width_faults
 from tools.documents.pages import MEASURED, pages, sentences
 from tools.door import Said, said_by
 from tools.tests import InRoom
-from tools.worked_cases import cases_of
 
 SWEEPS, LAWS = "crates/wb_runs/specs/Sweeps.antt", "crates/wb_runs/src/set_laws.rt"
 PROMISES = "<!-- promises -->\n| A | B |\n|---|---|\n"
@@ -24,11 +21,7 @@ BLOCKS = {
     f"file {SWEEPS} 1-2": ("-- What", "-- Where"),
     "case guide/two-cells.run": ("proc main", "proc mine"),
     f"laws {LAWS}": ("| `sets_end` |", "| `sets_stop` |"),
-    "bodies wb_heap_model/heap": ("`usable-length-counts-the-header`", "`usable-length`"),
-    "bodies": ("| `wb_size` | ", "| `wb_size` | 1"),
-    "dependencies": ("`wb_states` |", "`wb_size` |"),
     "crates": ("| `wb_streams` |", "| `wb_stream` |"),
-    r"files (?i)\bpop_?check": ("`src/script.rt`", "`src/scripts.rt`"),
     **{f"number {it}": ("-->", "-->1") for it in ("functions", "contracts", "wrong-bodies", "open")},
 }
 # what a page says, and what is said of it
@@ -37,7 +30,6 @@ FAULTS = {
     f"<!-- quote {LAWS} sets_end.none -->\n<!-- end -->": "there is no one sets_end.none",
     "<!-- file docs/NONE -->\n<!-- end -->": "there is no docs/NONE",
     "<!-- case guide/none.run -->\n<!-- end -->": "0 cases are called guide/none.run",
-    "<!-- bodies wb_heap_model/none -->\n<!-- end -->": "there is no wrong body of wb_heap_model/none",
     "<!-- number cases --><!-- end -->": "there is no number of cases",
     "<!-- number functions -->1": "a comment that neither begins nor ends a block",
     "<!-- run: workbench check -->\nNo block.": "a comment that neither begins nor ends a block",
@@ -134,20 +126,6 @@ columns = int(said) if said.isdigit() and int(said) > 0 else 80
 print(textwrap.fill("Finds what is the case " * 5, columns, break_long_words=False), file=__import__("sys").stderr)
 """
 BREAKS = {"columns, break": "columns + 1, break", "* 5, columns": "* (3 + columns // 60), columns", '"80")': '"70")', "else 80": "else 50"}
-# changes of each file, of each sort of lines or section one, which are seen
-CHANGES = {
-    BASH: {
-        **{" --states": "", "check help -": "help -", "check help'": "help'", "values='--limit": "values='"},
-        **{'" --picture "': '" "', "'*.sarif'": "'*.json'"},
-    },
-    ZSH: {":LIST:": ":N:", "'check:Runs": "'check:Makes", "16777216]": "16777217]", "'--limit=[": "'--limit[", "-V,--": "-V,--v"},
-    FISH: {" -l states -x": " -l states", " -a check": " -a checks", " -r -k": " -r", "complete -c workbench -f\n": ""},
-    MAN_PAGE: {
-        **{"\\- runs": "\\- run", "[\\fB\\-\\-json\\fR] ": "", "tells of each": "tells of an", ".B lengths": ".B length"},
-        **{"\\fILIST\\fR\n": "\\fIN\\fR\n", "Of \\fBsweep\\fR and": "Of", "to\n1000000": "to\n100000", "leak\\-under": "leaks\\-under"},
-        **{"The command line": "The line", ".B 6": ".B 7", "docs/CI.md": "docs/CIS.md"},
-    },
-}
 # the last words of a command line, and what the last of them may become, in a folder with a script, a picture and another file
 COMPLETED = {
     "s": "size sweep",
@@ -164,35 +142,12 @@ COMPLETED = {
 }
 
 
-def unbroken(text: str) -> str:
-    """A help without the breaks in what its options do, and in its examples."""
-    joined = re.sub(r"(?:\n {10}\S.*)+", lambda it: f"\n{' ' * 10}{' '.join(it[0].split())}", text)
-    return joined.replace("\nexamples/", " examples/")
-
-
 class OfHelp(InRoom):
     def test_the_width(self) -> None:
         for old, new in {"": "", **BREAKS}.items():
             self.assertIn(old, BROKEN)
             program = self.put("program", f"#!/usr/bin/env -S python3 -I\n{BROKEN.replace(old, new)}")
             self.assertEqual(bool(list(width_faults(program, ["run"]))), bool(old), new)
-
-    def test_files_that_differ(self) -> None:
-        asked = {tuple(it.args): unbroken((it.stderr or b"").decode()) for it in cases_of("command-line/help")}
-        told = help_of(lambda *command: asked.get(("help", *command)) or asked[*command, "--help"])
-        texts, page = read(), (DOCS / "REPORTS.md").read_text(encoding="utf-8")
-        self.assertGreater(sum(len(it.options) for it in told.values()), 50)
-
-        def differing(texts: dict[Path, str], page: str = page) -> list[str]:
-            return [name for name, wanted, found in compared(told, texts, page) if wanted != found]
-
-        self.assertEqual(differing(texts), [])
-        for file, changes in CHANGES.items():
-            for old, new in changes.items():
-                with self.subTest(file=file.name, old=old, new=new):
-                    self.assertIn(old, texts[file])
-                    self.assertNotEqual(differing(texts | {file: texts[file].replace(old, new)}), [])
-        self.assertNotEqual(differing(texts, page.replace("| 6 | the command line", "| 6 | words")), [])
 
     def test_completions_in_bash(self) -> None:
         call = 'source "$1"; shift; COMP_WORDS=("$@"); COMP_CWORD=$(($# - 1)); _workbench; printf "%s\\n" "${COMPREPLY[@]}"'

@@ -1,6 +1,8 @@
 """What is wrong with a picture that shows something else than the reports of its runs."""
 
+import re
 import unittest
+from collections.abc import Iterator
 
 from tools.common import DOCS
 from tools.documents.picture_reports import Picture, faults_of
@@ -14,20 +16,19 @@ REPORTS = {
     "size": ["required 256", "from 0 refuses 1", "from 144 refuses 2", "from 192 refuses 3", "enough from 256"],
     "lengths": ["from 0 nocleanup", "from 144 left -4", "from 192 leaks 1", "from 256 ended", "length 192"],
 }
-# what the report for some words may have in the place of some text, and the faults that the picture has then
-OTHER_REPORTS = [
-    ("run --set 3", "length 64", "length 80", "attempts are", "failing attempts are"),
-    ("run --set 3", "simulated", "refused", "attempts are", "failing attempts are"),
-    ("run", "place 144", "place 160", "attempts are", "cells are"),
-    ("run --set 3", "leak 2", "leak 1", "leaks are"),
-    ("run --set 3", "left -4", "left -5", "the heading doesn't end with ': attempts 3, steps 3, left with -5, 1 leak'"),
-    ("size", "required 256", "required 272", "lengths are"),
-    ("size", "refuses 2", "refuses 3", "rows of the table are"),
-]
+# the numbers of a report that a picture shows; and those of its rectangles of attempts and cells, and of their titles
+SHOWN = re.compile(r"(?:length|place|leak|steps|left|required|from|refuses) -?(\d+)")
+DRAWN = re.compile(r'(?: x="| y="| height="|place |by attempt )(\d+)|(\d+) bytes at')
 
 
 def line(begins: str, among: list[str] = LINES) -> str:
     return next(it for it in among if it.startswith(begins))
+
+
+def others(row: str, numbers: re.Pattern[str]) -> Iterator[str]:
+    """A row with each of these numbers greater."""
+    for at, end in (it.span(it.lastindex or 0) for it in numbers.finditer(row)):
+        yield f"{row[:at]}{int(row[at:end]) + 16}{row[end:]}"
 
 
 HEADING = line('<text class="h" x="76" y="4')
@@ -39,18 +40,13 @@ ENTRY = '<rect class="ref" x="1" y="1" width="14" height="11"/><text class="" x=
 RECT = '<rect class="cell ob1" x="1" y="1" width="1" height="1"><title>cell 9</title></rect>'
 # what a picture may have in the place of some text, and the faults that it has then
 OTHER_PICTURES = [
-    (line('<rect class="cell txt"'), "", "cells are", "entries of the legend are"),
     (line('<path class="need strong" d="M76 100L'), "", "lengths are"),
     (line('<text class="n" x="342"'), "", "a leak has no label"),
     (HEADING, HEADING + RECT, "a rectangle of a cell has the title of none"),
-    ('x="182" y="161" width="747"', 'x="192" y="161" width="737"', "a cell is from"),
     ('x="396" y="100" width="533"', 'x="396" y="100" width="633"', "a cell is from"),
-    ('y="161" width="747" height="46"', 'y="151" width="747" height="56"', "a cell is from"),
-    ('y="100" width="533" height="61"', 'y="100" width="533" height="71"', "a cell is from"),
     ('y="161" width="747" height="46"', 'y="160" width="748" height="47"'),
     (LEAK, LEAK.replace('width="320"', 'width="5"'), "a cell is from", "a leak is 5 pixels wide"),
     (LAST, ENTRY + LAST, "entries of the legend are"),
-    (LATER, LATER + BAND, "the scales of bands are [], and", "the scales of bands are [], and"),
     (LATER, LATER + BAND + SCALE, "the scales of bands are [], and"),
     (LATER, LATER.replace("in which attempt 3 fails", "of attempt 3"), "no rule has this heading"),
 ]
@@ -75,12 +71,20 @@ class OfPictures(unittest.TestCase):
         for fault, part in zip(found, wanted):
             self.assertIn(part, fault)
 
-    def test_other_reports(self) -> None:
+    def test_each_number_and_each_shape(self) -> None:
         self.assert_faults([])
-        for words, old, new, *faults in OTHER_REPORTS:
-            lines = [it.replace(old, new) for it in REPORTS[words]]
-            self.assertNotEqual(lines, REPORTS[words])
-            self.assert_faults(faults, other={words: lines})
+
+        def look(picture: str, other: dict[str, list[str]], what: str) -> None:
+            found = list(faults_of(Picture(picture), "check", lambda words: (REPORTS | other)[" ".join(words)]))
+            self.assertTrue(found, what)
+
+        for words, report in REPORTS.items():
+            for at, row in enumerate(report if words != "lengths" else []):
+                for changed in () if row.startswith("enough") else others(row, SHOWN):
+                    look(PICTURE, {words: [*report[:at], changed, *report[at + 1 :]]}, changed)
+        for row in (it for it in LINES if it.startswith(('<rect class="cell', '<path class="strong"')) and "bytes at" in it):
+            for changed in ["", *(others(row, DRAWN) if "<rect" in row else [])]:
+                look(PICTURE.replace(row, changed, 1), {}, changed or row)
 
     def test_other_pictures(self) -> None:
         for old, new, *faults in OTHER_PICTURES:

@@ -17,7 +17,7 @@ from tools.common import PROGRAM, ROOT, TOOLS, Answer, NoAnswer, Trials, answer_
 from tools.crates import Crates
 from tools.door import COMMANDS, said_by
 from tools.failing_allocations import NO_MEMORY, Trial
-from tools.layout import differences, makers
+from tools.layout import differences
 from tools.progress import KINDS, Kind, Shown, look_at_lines, screen
 from tools.tests import InRoom
 
@@ -82,98 +82,54 @@ class Installed(InRoom):
             self.assertEqual(found[place].stat().st_mode & 0o777, 0o755 if place.startswith("bin/") else 0o644, place)
 
 
-MADE = (
-    "Err(NoMemory::from(AllocError))",
-    "Err(AllocError.into())",
-    "granted.map_err(|_| RunFault::NoMemory)",
-    "match granted {\n        Ok(cell) => Ok(cell),\n        Err(_) => Err(Fault::NoMemory),\n    }",
-    "NoMemory(error)",
-)
-HANDED_ON = (
-    "grant().map_err(NoMemory::from)",
-    "let failed: Result<(), NoMemory> = grant();\n    failed",
-    "match granted {\n        Err(Fault::NoMemory) => Ok(4),\n        Ok(_) | Err(_) => Ok(0),\n    }",
-    "// Err(AllocError)\n    Ok(is(fault == Fault::NoMemory))",
-)
-
-
-def source(body: str) -> str:
-    return f"fn made(cell: Cell) -> Result<u8, NoMemory>\n    ensures {{ OnErr result (fault ≡ Fault.NoMemory) }}\n{{\n    {body}\n}}\n"
-
-
 class NoMemory(InRoom):
-    def test_a_body_makes_one_or_hands_one_on(self) -> None:
-        for body in (*MADE, *HANDED_ON):
-            self.assertEqual(makers(source(body)), ["made"] if body in MADE else [], body)
-
-    def test_bodies_of_one_name_count_together(self) -> None:
-        self.assertEqual(makers(source(MADE[0]) + source(HANDED_ON[0]) + source(MADE[2])), ["made 2"])
-
     def test_a_body_that_is_new_or_gone_is_named(self) -> None:
         self.put("crates.txt", "low:\n")
-        self.put("crates/low/src/lib.rt", source(MADE[0]))
+        self.put("crates/low/src/lib.rt", "fn made() -> Result<u8, NoMemory>\n{\n    Err(NoMemory::from(AllocError))\n}\n")
         for listed, count in {"low/src/lib.rt made: why": 0, "low/src/lib.rt made": 1, "low/src/lib.rt other: why": 2}.items():
             self.assertEqual(len(differences(Crates(self.room), self.put("kept.txt", listed))), count, listed)
 
 
 SINGLE, RATES, PAIRS, LENGTHS, SETS, RUN, _ = KINDS
-# what a line says besides: how much is done, and the time left
 LEFT = ", 22% done, 7 s left"
 
 
 def tried(number: int, left: str = LEFT, what: str = "attempt") -> str:
-    """What a line says of an attempt or a rate."""
     return f"{what} {number} of 40" + f", nothing up to {number - 1}" * (number > 1) + left
 
 
 def first(many: int, number: int, left: str = LEFT) -> str:
-    """What a line says of a set with this first attempt."""
     return f"{many} attempts, attempt {number} of 40 first" + f", none up to {number - 1}" * (number > 1) + left
 
 
-def steps(taken: int) -> str:
-    return f"running, {taken} steps taken"
-
-
-def heap(length: int, percent: int = 99) -> str:
-    return f"a heap of {length} bytes, {percent}% of the lengths done"
-
-
-# what is said of a sweep of 40 attempts in three seconds, each with its second, behind `trying `; and whether that is right
-LINES: list[tuple[str, bool, Kind, list[tuple[float, str]]]] = [
-    ("one after another", True, SINGLE, [(2.0, tried(9)), (2.1, tried(12))]),
-    ("the first one", True, SINGLE, [(2.0, tried(1))]),
-    ("the last one", True, RATES, [(2.5, tried(40, what="rate"))]),
-    ("states", True, PAIRS, [(2.0, "sets of 2 attempts, 1200 states met, 35 wait, nothing with fewer, 1 s"), (2.1, first(2, 2))]),
-    ("shorter heaps", True, LENGTHS, [(2.0, heap(4111)), (2.1, heap(4095))]),
-    ("more steps", True, RUN, [(2.0, steps(8192)), (2.1, steps(12_288))]),
-    ("larger sets", True, SETS, [(2.0, first(2, 9, "")), (2.1, first(3, 1))]),
-    ("an estimate before larger sets", False, SETS, [(2.0, first(2, 9)), (2.1, first(3, 1))]),
-    ("one that shows nothing too many", False, SINGLE, [(2.5, f"attempt 9 of 40, nothing up to 9{LEFT}")]),
-    ("no word of what shows nothing", False, SINGLE, [(2.5, f"attempt 9 of 40{LEFT}")]),
-    ("a longer heap", False, LENGTHS, [(2.0, heap(4095)), (2.1, heap(4127))]),
-    ("another share of the lengths", False, LENGTHS, [(2.0, heap(4095, 98))]),
-    ("fewer steps", False, RUN, [(2.0, steps(8192)), (2.1, steps(4096))]),
-    ("steps at another time", False, RUN, [(2.0, steps(8191))]),
-    ("a heap that is none", False, LENGTHS, [(2.0, tried(9))]),
-    ("smaller sets", False, SETS, [(2.0, first(3, 1)), (2.1, first(2, 9, ""))]),
-    ("nothing done", False, SETS, [(2.0, first(2, 9, ""))]),
-    ("less done", False, SETS, [(2.1, first(3, it, f", {23 - it}% done, 9 s left")) for it in (1, 2)]),
-    ("a set past the last", False, SETS, [(2.0, first(3, 41))]),
-    ("a set that is none", False, SETS, [(2.0, tried(9))]),
-    ("no line", False, SINGLE, []),
-    ("no estimate", False, SINGLE, [(2.5, tried(9, ""))]),
-    ("a line too early", False, SINGLE, [(1.0, tried(9))]),
-    ("too many lines", False, SINGLE, [(2.1, tried(number)) for number in range(1, 30)]),
-    ("of others", False, SINGLE, [(2.5, f"attempt 9 of 41, nothing up to 8{LEFT}")]),
-    ("past the last", False, SINGLE, [(2.5, tried(41))]),
-    ("before the first", False, SINGLE, [(2.5, tried(0))]),
-    ("out of order", False, SINGLE, [(2.1, tried(9)), (2.3, tried(8))]),
-    ("twice the same", False, SINGLE, [(2.1, tried(9)), (2.3, tried(9))]),
-    ("pairs out of order", False, PAIRS, [(2.1, first(2, it)) for it in (9, 8)]),
-    ("a rate", False, SINGLE, [(2.5, tried(9, what="rate"))]),
-    ("a set", False, SINGLE, [(2.5, first(2, 9))]),
-    ("an attempt", False, PAIRS, [(2.5, tried(9))]),
+# what is said of sweeps of 40 attempts in three seconds, each with its second, behind `trying `: what is right, and what isn't
+GOOD_LINES: list[tuple[Kind, list[tuple[float, str]]]] = [
+    (SINGLE, [(2.0, tried(9)), (2.1, tried(12))]),
+    (RATES, [(2.5, tried(40, what="rate"))]),
+    (PAIRS, [(2.0, "sets of 2 attempts, 1200 states met, 35 wait, nothing with fewer, 1 s"), (2.1, first(2, 2))]),
+    (LENGTHS, [(2.0, "a heap of 4111 bytes, 99% of the lengths done"), (2.1, "a heap of 4095 bytes, 99% of the lengths done")]),
+    (RUN, [(2.0, "running, 8192 steps taken"), (2.1, "running, 12288 steps taken")]),
+    (SETS, [(2.0, first(2, 9, "")), (2.1, first(3, 1))]),
+]
+BAD_LINES: list[tuple[Kind, list[tuple[float, str]]]] = [
+    # no line; one too early; too many; no estimate
+    *((SINGLE, it) for it in ([], [(1.0, tried(9))], [(2.1, tried(number)) for number in range(1, 30)], [(2.5, tried(9, ""))])),
+    # of others, past the last, one that shows nothing too many or none, another sort
+    *((SINGLE, [(2.5, it)]) for it in (f"attempt 9 of 41, nothing up to 8{LEFT}", tried(41), tried(0), tried(9, what="rate"), first(2, 9))),
+    *((SINGLE, [(2.5, f"attempt 9 of 40{it}{LEFT}")]) for it in (", nothing up to 9", "")),
+    # out of order, and twice the same
+    *((SINGLE, [(2.1, tried(9)), (2.3, tried(it))]) for it in (8, 9)),
+    (PAIRS, [(2.1, first(2, it)) for it in (9, 8)]),
+    (SETS, [(2.0, first(3, 1)), (2.1, first(2, 9, ""))]),
+    (LENGTHS, [(2.0, "a heap of 4095 bytes, 99% of the lengths done"), (2.1, "a heap of 4127 bytes, 99% of the lengths done")]),
+    (RUN, [(2.0, "running, 8192 steps taken"), (2.1, "running, 4096 steps taken")]),
+    # an estimate before larger sets, nothing done, and less than before
+    (SETS, [(2.0, first(2, 9)), (2.1, first(3, 1))]),
+    (SETS, [(2.0, first(2, 9, ""))]),
+    (SETS, [(2.1, first(3, it, f", {23 - it}% done, 9 s left")) for it in (1, 2)]),
+    # another share of the lengths, and no multiple of the steps
+    (LENGTHS, [(2.0, "a heap of 4095 bytes, 98% of the lengths done")]),
+    (RUN, [(2.0, "running, 8191 steps taken")]),
 ]
 
 # a program of so many allocations, what it answers with enough memory, and otherwise
@@ -185,11 +141,11 @@ STOPPED = NO_MEMORY._replace(output=b"one\nno memory\n")
 
 class Lines(unittest.TestCase):
     def test_lines(self) -> None:
-        for what, is_right, kind, lines in LINES:
+        for kind, lines in [*GOOD_LINES, *BAD_LINES]:
             checks, pieces = Trials(Path()), [(at, f"\rtrying {line}".encode()) for at, line in lines]
-            with self.subTest(what), contextlib.redirect_stdout(io.StringIO()):
+            with self.subTest(lines), contextlib.redirect_stdout(io.StringIO()):
                 look_at_lines(checks, kind, "a sweep", 40, Shown([*pieces, (2.9, b"attempts 40\r\n")], 0, 3.0))
-                self.assertEqual(checks.failed == 0, is_right)
+                self.assertEqual(checks.failed == 0, (kind, lines) in GOOD_LINES)
 
     def test_a_line_that_is_wiped_or_left(self) -> None:
         self.assertEqual(screen(b"\rtrying 10 of 40\rtrying 9 of 40 \r              \rleaks 0\r\n"), ["leaks 0", ""])

@@ -77,6 +77,22 @@ CHANGES: dict[str, list[tuple[str, str, str]]] = {
 }
 
 
+source, *edits = FILES[HIGH_EDITS].replace("=== src/lib.rt", "=== src/lib.rt\n").split("\n\n")
+MOVED = "crates/high/wrong-bodies/further/numbers.edits"
+# the texts of files, or None for a file that goes, with the sources that are open then
+FURTHER: list[tuple[dict[str, str | None], str]] = [
+    ({"crates/lowest/specs/More.antt": "pub two : ℕ\ntwo = 2\n"}, ALL),
+    ({"crates/high/src/more_laws.rt": "pub fn two_is()\n    ensures { 2 ≡ 2 }\n{}\n"}, "high"),
+    # edits in another order, and in another file; of another source they aren't the same edits
+    ({HIGH_EDITS: "\n\n\n".join([source, *reversed(edits)])}, ""),
+    ({HIGH_EDITS: None, MOVED: FILES[HIGH_EDITS]}, ""),
+    ({HIGH_EDITS: None, MOVED: FILES[HIGH_EDITS].replace("lib.rt", "numbers.rt")}, "high"),
+    # a file of edits less, and one without any
+    ({LOW_EDITS: None}, ""),
+    ({LOW_EDITS: ""}, "none"),
+]
+
+
 class InRepository(InRoom):
     files = FILES
 
@@ -114,29 +130,12 @@ class WhatStands(InRepository):
 
     def test_what_else_counts(self) -> None:
         self.assertEqual(self.opened("logic 1"), ALL)
-        # a further file, and one of the crate above
-        self.put("crates/lowest/specs/More.antt", "pub two : ℕ\ntwo = 2\n")
-        self.assertEqual(self.opened(), ALL)
-        (self.room / "crates/lowest/specs/More.antt").unlink()
-        self.put("crates/high/src/more_laws.rt", "pub fn two_is()\n    ensures { 2 ≡ 2 }\n{}\n")
-        self.assertEqual(self.opened(), "high")
-        (self.room / "crates/high/src/more_laws.rt").unlink()
-        # edits in another order, and in another file; of another source they aren't the same edits
-        source, *edits = FILES[HIGH_EDITS].replace("=== src/lib.rt", "=== src/lib.rt\n").split("\n\n")
-        self.put(HIGH_EDITS, "\n\n\n".join([source, *reversed(edits)]))
-        self.assertEqual(self.opened(), "")
-        (self.room / HIGH_EDITS).unlink()
-        moved = "crates/high/wrong-bodies/further/numbers.edits"
-        self.put(moved, FILES[HIGH_EDITS])
-        self.assertEqual(self.opened(), "")
-        self.put(moved, FILES[HIGH_EDITS].replace("lib.rt", "numbers.rt"))
-        self.assertEqual(self.opened(), "high")
-        # a file of edits less, and one without any
-        self.put(moved, FILES[HIGH_EDITS])
-        (self.room / LOW_EDITS).unlink()
-        self.assertEqual(self.opened(), "")
-        self.put(LOW_EDITS, "")
-        self.assertEqual(self.opened(), "none")
+        for changes, opened in FURTHER:
+            for name, text in changes.items():
+                (self.room / name).unlink() if text is None else self.put(name, text)
+            self.assertEqual(self.opened(), opened, changes)
+            for name in changes:
+                self.put(name, FILES[name]) if name in FILES else (self.room / name).unlink()
 
     def test_a_line_in_another_form(self) -> None:
         lines = (self.room / FILE).read_text(encoding="utf-8")

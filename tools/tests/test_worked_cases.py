@@ -39,23 +39,20 @@ NO_GROUPS = (
     ("$ run", "$  run", "there must be `\\$ run"),
     ("$ run", "$ 'run", "No closing quotation"),
     ("160\n", "160  # one.run\n", "there must be"),
-    ("--- stderr", "--- oom", "can't stand here"),
     ("--- stderr\n", "--- stderr\n--- stderr\n", "can't stand here"),
-    ("--- status 0\n", "", "can't stand here"),
     ("--- status 0\n", "--- status 0\n--- stderr\n", "can't stand here"),
     ("    b\n", "    b\n\n=== two\n$ run\n", "can't stand here"),
-    ("=== one\nproc main\nend\n", "", "is no comment"),
-    *(("status 0", f"status {it}", "can't stand here") for it in ("", "zero", "00", "-1", "0 0", " 0")),
-    ("status 0\n", "status 0\nmore\n", "can't stand here"),
+    *(("status 0", f"status {it}", "can't stand here") for it in ("", "00", "-1", "0 0")),
     ("status 0\n\n", "status 0\n", "there must be ``"),
     ("    b\n", "    b\n\n", "there must be nothing"),
     ("    b\n", "    b\n$ run\n--- status 0\n", "can't stand here"),
     ("=== rows (table)", "=== rows", "no case is below rows"),
     ("=== rows (table)", "=== two\n$ run  # one.run\n--- status 0\n\n=== rows (table)", "two cases are called one.run"),
-    ("rows (table)", "one.run (table)", "two cases are called one.run"),
-    *(("ended", it, "there must be `") for it in ("ended ", "\\x65nded", "end\\\ned", "end\\ned", "end\\e", "\\n")),
-    ("ended", "\\qended", "is no escape"),
-    *(("ended", it, "bytes other than printable") for it in ("\r", "\x00", "\x7f", "\t", "\u00e9")),
+    *(("ended", it, "there must be `") for it in ("ended ", "\\x65nded", "end\\\ned", "end\\e")),
+    *(("ended", it, "bytes other than printable") for it in ("\r", "\t", "\u00e9")),
+    *(("ended", it, "is no escape") for it in ("\\qended", "\\x4", "\\{2:a", "\\#", "\\{2:a\\{2:b\\}\\}")),
+    *(("ended", f"\\{{{it}:b\\}}", "is no|not as many") for it in ("a", "a..bb", "1..2, 1..3", "1..2 by 0")),
+    ("ended", "\\{1..2:\\#2\\}", "is no range"),
 )
 
 # answers the script that it is given: the first byte is the status, the rest goes to standard output, and its words to standard error
@@ -85,9 +82,7 @@ DIFFERENCE = """
 """
 # wrong cases, and a line of what is said of each
 WRONG_PARTS = (
-    (replace(RIGHT, stdout=b""), "+leaks 1"),
     (replace(RIGHT, stdout=b"ended\nsteps 4\nleaks 1\n"), "-leaks 1"),
-    (replace(RIGHT, stdout=b"ended\nleaks 1\nsteps 4"), "+steps 4"),
     (replace(RIGHT, stdout=b"ended\nleaks 1\nsteps 4\n\xff"), "-\\xff\\"),
     (replace(RIGHT, status=3), "+--- status 1"),
     (replace(RIGHT, stderr=b""), "+run --limit 9\\"),
@@ -99,31 +94,22 @@ TABLES = {
     "answer: 0 a\n    0b\\n\n": "0 passed, 1 failed",
     "answer: 0 a\n    1a\\n\n": "wanted status 0",
     "answer: 0 a | ..\n    0b\\na\\n\n": "0 passed, 1 failed",
-    "answer: 0 .. | a\n    0a\\nb\\n\n": "0 passed, 1 failed",
     "answer: accepted\n    2refused 8\\n\n": "wanted status 0 or 1 or 3",
     "answer: accepted\n    0refused 8\\n\n": "0 passed, 1 failed",
     "answer: refused 3\n    2refused 3 line 2\\n\n": "0 passed, 1 failed",
     "rows: words\nmessages: walk\nanswer: 6\n    run\n": "wanted 'walk' on standard error",
     "script: 0a\\n\\n\nrows: cuts\nanswer: 0 a\n    3\nanswer: 0 a | \n    4..4\n": "2 passed, 0 failed",
     "script: 00\\n\nbyte: 1\nrows: bytes\nanswer: 1 0\n    0\nanswer: 0 1\n    1\n": "2 passed, 0 failed",
-    "": "cases:2: no row follows",
     "# a comment\n": "cases:2: no row follows",
-    "answer: 0\n": "cases:2: no row follows",
     "answer: 0\nanswer: 1\n    1\n": "cases:2: no row follows",
     "    0\n": "cases:2: a row without an answer",
     "answer: 0\n     \n": "cases:3: a row of blanks",
     "answer: 0\n    0\\q\n": "is no escape",
-    "answer: 0\n    0\\\n": "is no escape",
     "answer: fine\n    0\n": "cases:2: neither a setting nor a row",
-    "answer: 0 \n    0\n": "cases:2: neither a setting nor a row",
     "answer: 0\nstatus: 1\n    0\n": "cases:3: neither a setting nor a row",
-    "answer: 0\n  0\n": "cases:3: neither a setting nor a row",
     "rows: lines\nanswer: 0\n    0\n": "cases:2: neither a setting nor a row",
     "script: 0\nrows: cuts\nanswer: 0\n    1..2\n": "cases:5: the script has no such place",
-    "script: 0\nbyte: 1\nrows: bytes\nanswer: 0\n    1\n": "cases:6: the script has no such place",
     "script: 00\nrows: bytes\nanswer: 0\n    1\n": "not one byte for it",
-    "script: 0\nbyte: 1\nrows: cuts\nanswer: 0\n    1\n": "not one byte for it",
-    "script: 00\nrows: cuts\nanswer: 0\n    2..1\n": "cases:5: the script has no such place",
     "script: 00\nrows: cuts\nanswer: 0\n    all\n": "cases:5: neither a number nor a range",
 }
 
@@ -131,7 +117,7 @@ TABLES = {
 class OfTexts(unittest.TestCase):
     def test_each_byte_and_some_texts(self) -> None:
         texts = [bytes([it]) for it in range(256)] + [bytes([it, 10]) for it in range(256)]
-        texts += [b"", b"\n", b"\n\n#", b"a \n", b"a\\\n", b"\\{2:a\\}", b"caf\xc3\xa9\r\n", bytes(range(256)) * 2]
+        texts += [b"", b"\n", b"\n\n#", b"a \n", b"a\\\n", b"\\{2:a\\}", bytes(range(256)) * 2]
         texts += [mark + rest for mark in (b"=== a", b"--- status 0", b"$ run", b"$", b"--- ", b"$run", b" $ run") for rest in (b"", b"\n")]
         for text in texts:
             with self.subTest(text):
@@ -151,12 +137,6 @@ class OfTexts(unittest.TestCase):
         ):
             with self.subTest(line):
                 self.assertEqual(meaning(line + "\n"), text)
-
-    def test_what_is_no_text(self) -> None:
-        ranges = [f"\\{{{it}:b\\}}" for it in ("a", "a..bb", "1..2, 1..3", "1..2 by 0")]
-        for line in ("a\\q", "\\x4", "\\x4G", "\\{2:a", "\\#", "\\{1..2:\\#2\\}", "\\{2:a\\{2:b\\}\\}", *ranges):
-            with self.subTest(line), self.assertRaisesRegex(CaseError, "is no|not as many"):
-                meaning(line)
 
 
 class OfCases(InRoom):
