@@ -8,7 +8,7 @@ use crate::attempts::{Attempts, Keep};
 use crate::bodies::Bodies;
 use crate::calls::Calls;
 use crate::course::Course;
-use crate::items::{ItemOnStack, Items};
+use crate::items::{ItemOnStack, ItemsOnStack};
 use crate::lives::{By, Lives};
 use crate::marks::Marks;
 use crate::moments::Moment;
@@ -38,7 +38,7 @@ struct Outside<'a> {
 pub struct History<'a> {
     pub attempts: Attempts<'a>,
     pub lives: Lives,
-    pub items: Items,
+    pub items: ItemsOnStack,
     pub traps: Traps,
     pub marks: Marks,
     pub views: Views,
@@ -95,7 +95,7 @@ impl<'a> History<'a> {
         Ok(History {
             attempts: Attempts::new(alloc, rule, keep),
             lives: Lives::new(alloc),
-            items: Items::new(alloc),
+            items: ItemsOnStack::new(alloc),
             traps: Traps::new(alloc),
             marks: Marks::new(alloc),
             views: Views::new(alloc),

@@ -49,7 +49,7 @@ pub struct Taken {
 
 /// The items on the cleanup stack, the newest last.
 #[derive(Drop)]
-pub struct Items {
+pub struct ItemsOnStack {
     items: Vec<ItemOnStack>,
     /// The last item that was taken off by a body that had begun after the push, and the last item left by an ended body that was taken off;
     /// else `None`.
@@ -59,10 +59,10 @@ pub struct Items {
     pub after_callee: Option<Taken>,
 }
 
-impl Items {
+impl ItemsOnStack {
     /// No item has been pushed yet.
-    pub fn new(alloc: Global) -> Items {
-        Items {
+    pub fn new(alloc: Global) -> ItemsOnStack {
+        ItemsOnStack {
             items: Vec::new(alloc),
             of_caller: None,
             of_callee: None,

@@ -6,7 +6,7 @@
 //!
 //! - `Attempts`: each attempt, with the line and the statement that made it;
 //! - `Lives`: each cell: the lines at which it was made, grown, pushed, popped and moved, the pointer last set to it, and how it ended;
-//! - `Items`: the items on the cleanup stack, each with where it was pushed;
+//! - `ItemsOnStack`: the items on the cleanup stack, each with where it was pushed;
 //! - `Traps`: the TRAPs that are open, with their lines; and each leave, with the TRAP that caught it;
 //! - `Marks`: the heap marks that are open, with their lines and the leaves that skipped their ends;
 //! - `Views`: which cell's text each view shows;
@@ -56,7 +56,7 @@ pub use calls::{Calls, Stay};
 pub use checks::Counted;
 pub use course::{Course, NEVER, Part, PartEnd};
 pub use history::History;
-pub use items::{ItemOnStack, Items, Popped, Taken};
+pub use items::{ItemOnStack, ItemsOnStack, Popped, Taken};
 pub use lines::{ScriptFile, ScriptLines};
 pub use lives::{By, End, Ended, Life, Lives, Origin};
 pub use makers::Maker;

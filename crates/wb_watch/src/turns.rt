@@ -9,7 +9,7 @@ use crate::statements::Ahead;
 use crate::words::word_used;
 use std::alloc::{AllocError, Global};
 use wb_heap_model::heap::{Item, Ptr, Rule};
-use wb_history::{Blocks, By, End, History, ItemOnStack, Keep, NULL};
+use wb_history::{Blocks, By, End, History, ItemOnStack, Keep, NULL, WordUse};
 use wb_machine::Machine;
 use wb_tree::script::Script;
 
@@ -76,14 +76,18 @@ impl<'a> Watcher<'a> {
     }
 
     /// Looks at the machine after a turn that was to begin a quiet statement. Of this statement only the line is kept, and the word of a cell
-    /// that it stored or loaded.
-    pub(crate) fn see_quiet(&mut self, machine: &Machine<'a>) -> Result<(), AllocError> {
+    /// that it stored or loaded. `word` is the word that it was to store.
+    pub(crate) fn see_quiet(
+        &mut self,
+        machine: &Machine<'a>,
+        word: Option<WordUse>,
+    ) -> Result<(), AllocError> {
         let has_stepped = machine.steps() > self.history.steps();
         if has_stepped {
             self.see_block(machine)?;
         }
         self.see_line(machine)?;
-        if has_stepped && let Some(word) = word_used(machine) {
+        if has_stepped && let Some(word) = word_used(machine, word) {
             self.history.word_uses.note(word)?;
         }
         if self.deletions.is_empty() {

@@ -14,6 +14,7 @@ use crate::raised::raised_by;
 use crate::statements::{Ahead, last_read};
 use crate::turns::Watcher;
 use crate::values::values_of;
+use crate::words::word_ahead;
 use std::alloc::{AllocError, Global};
 use wb_basics::limits::LARGEST_BUDGET;
 use wb_basics::memory::NoMemory;
@@ -217,8 +218,9 @@ fn watch_turn<'a>(machine: &mut Machine<'a>, watcher: &mut Watcher<'a>) -> Resul
 {
     match machine.next_statement() {
         Some(statement) if is_quiet(statement) => {
+            let word = word_ahead(machine, statement);
             let turn = machine.step()?;
-            watcher.see_quiet(machine)?;
+            watcher.see_quiet(machine, word)?;
             Ok(turn)
         }
         Some(statement) => {

@@ -59,7 +59,7 @@ pub fn put_look(page: &mut ScriptPage<'_>, leave: Leave, tested: &str) {
         let after = leave.after;
         if page.word(after, 0) == "trap" && page.word(after, 1) == name {
             return page.page.write_help(format_args!(
-                "line {line} left, to the TRAP of line {at}, and the `trap` of line {after} gave `{name}` another value before a line looked at it: look at `{name}` before that, or let that `trap` set another int"
+                "line {line} left, to the TRAP of line {at}, and the `trap` of line {after} gave `{name}` another value before a line looked at it: look at `{name}` before that, or let that `trap` set another int, and look at both"
             ));
         }
         if page.word(after, 0) == "if" && page.word(after, 2) == name {

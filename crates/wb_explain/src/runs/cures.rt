@@ -1,11 +1,15 @@
 //! What to do about a panic, or about a pointer that became null: words alone, or words about lines that a run came to.
 
+use crate::runs::ended_by_call::{EndedByCall, put_cure_of_call};
 use crate::runs::for_leave::{FreedForLeave, put_share_too_late};
 use crate::runs::half_made::{HalfMade, put_cure_of_half};
+use crate::runs::item_cures::{ItemCure, put_item_cure};
 use crate::runs::kept::name_of;
+use crate::runs::lent::{Lent, put_cure_of_lent};
+use crate::runs::new_place::{NewPlace, put_cure_of_place};
 use crate::runs::script_page::ScriptPage;
 use crate::runs::shared::{SharedCell, put_cure_of_shared};
-use wb_history::PointerFault;
+use wb_history::{PointerFault, WatchedRun};
 
 /// What to do.
 #[derive(Clone, Copy)]
@@ -61,6 +65,30 @@ pub enum Cure {
         other: u32,
         counts: u32,
     },
+    /// An item of the cleanup stack is one too many, or was pushed or popped in the wrong place.
+    Item(ItemCure),
+    /// A call ended the life of a cell that a line below it uses.
+    EndedByCall(EndedByCall),
+    /// The line `moved` moved the cell of another pointer than the one that it set; the line `used` then used that pointer.
+    OldPlace {
+        moved: u32,
+        used: u32,
+        fault: PointerFault,
+    },
+    /// A cell moved, and only a local had its new place when a line left.
+    NewPlace(NewPlace),
+    /// A line gave away a cell that a field kept.
+    Lent(Lent),
+    /// The pointer by which the line `freed` released a cell kept its value.
+    SetNull {
+        freed: u32,
+    },
+    /// The destructor of an object gave up a user of a cell for the leave of the line `left`, before this user was counted. The line `set`
+    /// had given the cell to a field of the object.
+    UncountedUser {
+        set: u32,
+        left: u32,
+    },
     /// The line `from` gave the pointer at fault null, or left before it gave the pointer a cell. The line `used` used the pointer.
     CheckBefore {
         from: u32,
@@ -71,7 +99,7 @@ pub enum Cure {
 }
 
 /// Writes what to do.
-pub fn put_cure(page: &mut ScriptPage<'_>, cure: Cure) {
+pub fn put_cure(page: &mut ScriptPage<'_>, cure: Cure, run: &WatchedRun<'_>) {
     match cure {
         Cure::Words(words) if !words.is_empty() => page.page.write_help_text(words),
         Cure::Words(_) => {}
@@ -96,6 +124,15 @@ pub fn put_cure(page: &mut ScriptPage<'_>, cure: Cure) {
         )),
         Cure::HalfMade(half) => put_cure_of_half(page, half),
         Cure::Shared(shared) => put_cure_of_shared(page, shared),
+        Cure::Item(cure) => put_item_cure(page, cure, run),
+        Cure::EndedByCall(call) => put_cure_of_call(page, call, run),
+        Cure::OldPlace { moved, used, fault } => {
+            put_old_place(page, moved, name_of(page, used, fault));
+        }
+        Cure::NewPlace(place) => put_cure_of_place(page, place),
+        Cure::Lent(lent) => put_cure_of_lent(page, lent),
+        Cure::SetNull { freed } => put_set_null(page, freed),
+        Cure::UncountedUser { set, left } => put_uncounted(page, set, left),
         Cure::ShareTooLate {
             freed,
             other,
@@ -138,7 +175,12 @@ fn put_check_before(page: &mut ScriptPage<'_>, from: u32, name: &str, used: u32,
 fn put_too_early(page: &mut ScriptPage<'_>, set: u32, gone: u32) {
     let name = page.word(set, 1);
     page.page.begin_help();
-    page.page.write(format_args!("its item and the field both own it: set `{name}`"));
+    page.page.write_text("its item and the field both own it: ");
+    if page.word(set, 0) != "set" {
+        page.page
+            .write(format_args!("let a local get it in line {set}, and "));
+    }
+    page.page.write(format_args!("set `{name}`"));
     if gone != 0 {
         let word = page.word(gone, 0);
         page.page.write(format_args!(", and `{word}` what it named before (line {gone}),"));
@@ -147,6 +189,32 @@ fn put_too_early(page: &mut ScriptPage<'_>, set: u32, gone: u32) {
         " only after the last line that may leave, and pop the item right after that",
     );
     page.page.end_line();
+}
+
+fn put_old_place(page: &mut ScriptPage<'_>, moved: u32, name: &str) {
+    let result = page.word(moved, 1);
+    page.page.write_help(format_args!(
+        "a cell that grew may have moved, and then only the result of that line names it: after line {moved} set `{name}` again, from `{result}`"
+    ));
+}
+
+fn put_set_null(page: &mut ScriptPage<'_>, freed: u32) {
+    let (word, name) = (page.word(freed, 0), page.word(freed, 1));
+    let does = if word == "delete" {
+        "deleting"
+    } else {
+        "freeing"
+    };
+    page.page.write_help(format_args!(
+        "set `{name}` to null after the `{word}` of line {freed}: {does} null does nothing"
+    ));
+}
+
+fn put_uncounted(page: &mut ScriptPage<'_>, set: u32, left: u32) {
+    let name = page.word(set, 1);
+    page.page.write_help(format_args!(
+        "the destructor gave up a user that wasn't counted yet when line {left} left: count the user right before line {set} sets `{name}`"
+    ));
 }
 
 fn put_passed_push(page: &mut ScriptPage<'_>, off: u32, push: u32, head: u32) {

@@ -10,13 +10,17 @@ use crate::runs::end_words::{CodeName, PanicName};
 use crate::runs::explanation::{FindingKind, Told};
 use crate::runs::half_made::{half_made, put_half_made, put_since};
 use crate::runs::heap_checks::{cure_of_check, put_counted, put_counts};
+use crate::runs::item_cures::ItemCure;
 use crate::runs::item_gone::{cure_of_gone, has_two_items, left_instead, put_item_gone, put_user};
+use crate::runs::item_kept::{kept_past_use, released_before};
 use crate::runs::items_left::{
     OF_MAIN, POP_FIRST, cure_of_another, cure_of_below, cure_of_left, left_to_caller, put_another,
     put_items, put_items_left, put_too_many,
 };
 use crate::runs::kept::{Kept, kept_value, put_cure_of_kept, put_kept};
 use crate::runs::leaks::put_leaks;
+use crate::runs::lent::put_given;
+use crate::runs::old_value::{old_value, put_cure_of_old, put_old_value};
 use crate::runs::panics::{Meaning, meaning_of, symbian_of};
 use crate::runs::paths::{put_path, put_traps};
 use crate::runs::pointers::{cure_of, is_left_null, is_out_of_order, member_left_null, put_fault};
@@ -26,6 +30,7 @@ use crate::runs::sentences::put_values;
 use crate::runs::stored::{put_cure_of_stored, put_stored, stored_before_panic};
 use crate::runs::taken::{is_to_leave, put_cure_of_left};
 use crate::runs::told::put_life;
+use crate::runs::two_items::two_items;
 use crate::runs::view_made::put_view;
 use wb_heap_model::heap::{Panic, Rule};
 use wb_history::{Ended, Leave, Life, Meant, PointerState, Raised, Raiser, Values, WatchedRun};
@@ -174,6 +179,10 @@ fn put_way(page: &mut ScriptPage<'_>, line: u32, raised: Raised, run: &WatchedRu
     put_kept(page, kept, run)?;
     put_half_made(page, line, run)?;
     put_stored(page, stored_before_panic(page, line, run))?;
+    if kept.is_none() {
+        put_given(page, line, ended_of(raised, run), run)?;
+        put_old_value(page, old_value(page, run))?;
+    }
     put_items(page, raised, run)?;
     match &run.end.counted {
         Some(counted) => put_counted(page, counted, run),
@@ -193,6 +202,7 @@ fn put_item_meant(
         (Some(fault), Some(ended)) if is_out_of_order(run, line, fault, ended) => {
             put_user(page, run)
         }
+        (Some(fault), _) if kept_past_use(page, line, fault, run).is_some() => put_user(page, run),
         _ => Ok(()),
     }
 }
@@ -216,11 +226,27 @@ fn help_of(page: &ScriptPage<'_>, line: u32, raised: Raised, run: &WatchedRun<'_
     }
     match run.end.pointer {
         Some(fault) => cure_of(page, run, line, fault),
+        None if raised.raiser == Raiser::Item => cure_of_item(page, raised, run),
         None if raised.panic == Panic::POP_BELOW_TRAP => cure_of_below(page, run),
         None if raised.panic == Panic::ITEMS_LEFT => {
             cure_of_left(page, raised, run).unwrap_or(Cure::Words(meaning(raised, run).1))
         }
         None => Cure::Words(words_of(page, raised, run)),
+    }
+}
+
+/// What to do about a panic that an item raised.
+fn cure_of_item(page: &ScriptPage<'_>, raised: Raised, run: &WatchedRun<'_>) -> Cure {
+    let ended = ended_of(raised, run);
+    match (two_items(page, ended, run), ended) {
+        (Some(items), _) => Cure::Item(ItemCure::Two(items)),
+        (None, Some(ended)) if cure_of_gone(run, ended).is_none() => {
+            match released_before(page, ended, run) {
+                Some(cure) => Cure::Item(cure),
+                None => Cure::Words(words_of(page, raised, run)),
+            }
+        }
+        _ => Cure::Words(words_of(page, raised, run)),
     }
 }
 
@@ -293,12 +319,13 @@ fn put_remarks(
         return Ok(());
     }
     let kept = kept_value(page, line, run)?;
-    match look_of(page, line, kept, run) {
-        Some(leave) => {
+    match (look_of(page, line, kept, run), old_value(page, run)) {
+        (Some(leave), _) => {
             let tested = member_left_null(page, line, run);
             put_look(page, leave, tested);
         }
-        None => put_help(page, line, raised, kept, run),
+        (None, Some(old)) if kept.is_none() => put_cure_of_old(page, old),
+        (None, _) => put_help(page, line, raised, kept, run),
     }
     Ok(())
 }
@@ -340,7 +367,7 @@ fn put_help(
         return put_cure_of_left(page, body, run);
     }
     let help = help_of(page, line, raised, run);
-    put_cure(page, help);
+    put_cure(page, help, run);
 }
 
 /// Whether lines that a leave skipped may have led to a panic, because those lines would have made something, or made something longer.

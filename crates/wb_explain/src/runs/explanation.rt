@@ -1,5 +1,7 @@
 //! What is explained: the text, its parts, and which of the parts are findings.
 
+mod replaced;
+
 use std::alloc::{AllocError, Global};
 use wb_heap_model::heap::Panic;
 use wb_pages::Part;

@@ -2,6 +2,7 @@
 
 use crate::runs::cures::Cure;
 use crate::runs::heads::head_around;
+use crate::runs::pointers::owner_left;
 use crate::runs::script_page::{ScriptPage, Written};
 use crate::runs::whole::line_in_body_of;
 use wb_history::{BodyKind, By, Ended, Life, PointerFault, PointerState, ShortLine, WatchedRun};
@@ -142,6 +143,28 @@ pub fn cure_of_share(
         freed,
         other,
         counts: counted_at(page, run, line, freed),
+    })
+}
+
+/// Returns what to do about a cell that is gone, if its users are counted, and the destructor of an object that a leave destroyed gave up a user
+/// that wasn't counted yet; `None` otherwise.
+pub fn cure_of_uncounted(
+    page: &ScriptPage<'_>,
+    run: &WatchedRun<'_>,
+    fault: PointerFault,
+    ended: Ended,
+) -> Option<Cure> {
+    let PointerState::Gone(Some(life)) = fault.state else {
+        return None;
+    };
+    let left = owner_left(run, life)?;
+    let body = run.history.bodies.body_of(ended.at.number());
+    if body.kind != BodyKind::Destructor || !is_counted(page, life) {
+        return None;
+    }
+    Some(Cure::UncountedUser {
+        set: life.held?.line.number(),
+        left: left.at.number(),
     })
 }
 

@@ -28,3 +28,18 @@ pub fn head_around(page: &ScriptPage<'_>, line: u32) -> Option<Head> {
     }
     None
 }
+
+/// Returns the line that ends the first part of the block that begins at the line `head`: its `end` or its `else`; the script's last line if
+/// there is none.
+pub fn end_of(page: &ScriptPage<'_>, head: u32) -> u32 {
+    let mut inner = 0u32;
+    for at in head.saturating_add(1)..=page.lines.count() {
+        match page.word(at, 0) {
+            "end" | "else" if inner == 0 => return at,
+            "end" => inner = inner.saturating_sub(1),
+            "if" | "repeat" | "trap" => inner = inner.saturating_add(1),
+            _ => {}
+        }
+    }
+    page.lines.count()
+}

@@ -3,12 +3,14 @@
 
 use crate::runs::counts::{Many, of_one_or_more};
 use crate::runs::cures::Cure;
+use crate::runs::item_cures::ItemCure;
 use crate::runs::panics::Meaning;
 use crate::runs::paths::{AfterLine, body_name};
 use crate::runs::script_page::{ScriptPage, Written};
 use crate::runs::taken::{
     Then, cure_of_off, cure_of_taken, leaves_item, put_item_off, put_left, put_of_caller,
 };
+use crate::runs::two_items::two_items_left;
 use wb_heap_model::heap::Panic;
 use wb_history::{ItemOnStack, Origin, Raised, Raiser, Stay, WatchedRun};
 
@@ -279,6 +281,9 @@ fn is_newest_of_failure(run: &WatchedRun<'_>) -> bool {
 pub fn cure_of_left(page: &ScriptPage<'_>, raised: Raised, run: &WatchedRun<'_>) -> Option<Cure> {
     let left = items_left(raised, run);
     let newest = left.last()?;
+    if let Some(items) = two_items_left(*newest, run) {
+        return Some(Cure::Item(ItemCure::Two(items)));
+    }
     let ended_in = u32::try_from(run.end.path.len()).unwrap_or(u32::MAX);
     if newest.depth < ended_in.saturating_add(1) {
         return None;
@@ -287,6 +292,9 @@ pub fn cure_of_left(page: &ScriptPage<'_>, raised: Raised, run: &WatchedRun<'_>)
         return Some(Cure::Words(
             "pop what a called body left, with `pop` or `popdestroy`, before each end of the body that called it, before a `return` too",
         ));
+    }
+    if let Some(cure) = cure_of_returned(page, *newest, run) {
+        return Some(cure);
     }
     let last = last_of(*newest, newest.depth, run);
     if last == 0 || is_to_keep(page, last, run) {
@@ -297,6 +305,26 @@ pub fn cure_of_left(page: &ScriptPage<'_>, raised: Raised, run: &WatchedRun<'_>)
         count: count_pushed_with(*newest, left, run),
         is_owned: may_be_owned(left, run),
     })
+}
+
+/// What to do about an item if the body that pushed it returns its pointer, and the body's name doesn't say that it leaves an item.
+fn cure_of_returned(
+    page: &ScriptPage<'_>,
+    item: ItemOnStack,
+    run: &WatchedRun<'_>,
+) -> Option<Cure> {
+    let (bodies, pushed) = (&run.history.bodies, item.pushed.line);
+    let body = bodies.body_of(pushed);
+    for last in pushed..=page.lines.count() {
+        let returns = page.word(last, 0) == "return" && page.word(last, 1) == page.word(pushed, 1);
+        if returns && bodies.body_of(last) == body {
+            return match leaves_item(page.word(body.line, 1)) {
+                true => None,
+                false => Some(Cure::Item(ItemCure::Returned { pushed, last })),
+            };
+        }
+    }
+    None
 }
 
 /// Whether a body that came to its end at the line `last` is to leave an item to its caller: it returns a pointer, or its name says so.

@@ -1,6 +1,7 @@
 //! What is said about a cell that a leave lost: where its item was popped, or which field let go of it, and what to do.
 
-use crate::runs::let_go::{LetGo, let_go};
+use crate::runs::heads::{end_of, head_around};
+use crate::runs::let_go::let_go;
 use crate::runs::losses::is_popped_elsewhere;
 use crate::runs::operations::{put_operation, put_operation_cure};
 use crate::runs::script_page::{ScriptPage, Written};
@@ -28,17 +29,43 @@ pub fn put_left_cure(page: &mut ScriptPage<'_>, leave: Leave, life: Life, run: &
     match (life.popped.is_some(), life.pushed.is_some()) {
         (true, _) => put_popped_cure(page, leave, life, run),
         (false, true) => put_operation_cure(page, life.pushed.number(), run),
-        (false, false) => page.page.write_text(
-            " while no item held the cell: push it before that, and pop the item when it is freed or has another owner",
-        ),
+        (false, false) => put_unpushed_cure(page, leave, life, run),
     }
     page.page.end_line();
 }
 
+/// Writes what to do about a cell that was never pushed. If the block in which the cell was made ends before the cell gets another owner, the
+/// item is to be popped before that.
+fn put_unpushed_cure(page: &mut ScriptPage<'_>, leave: Leave, life: Life, run: &WatchedRun<'_>) {
+    page.page.write_text(" while no item held the cell: push it before that, and pop the item ");
+    let held = life.held.map_or(0, |it| it.line.number());
+    let block = head_around(page, line_of_leave(leave, life, run)).map(|it| it.line);
+    match block {
+        Some(head)
+            if head_around(page, held).map(|it| it.line) == block
+                && page.word(head, 0) == "if"
+                && !is_released_in(page, head, page.word(held, 1)) => page
+            .page
+            .write(format_args!("before the `if` of line {head} ends")),
+        _ => page
+            .page
+            .write_text("when it is freed or has another owner"),
+    }
+}
+
+/// Whether the block that begins at a line frees or copies the pointer `name`.
+fn is_released_in(page: &ScriptPage<'_>, head: u32, name: &str) -> bool {
+    (head..end_of(page, head)).any(|at| match page.word(at, 0) {
+        "free" | "delete" => page.word(at, 1) == name,
+        "set" => page.word(at, 2) == name,
+        _ => false,
+    })
+}
+
 /// Writes what to do about a cell whose item was popped before the leave.
 fn put_popped_cure(page: &mut ScriptPage<'_>, leave: Leave, life: Life, run: &WatchedRun<'_>) {
-    if let Some(let_go) = let_go(page, life, run) {
-        return put_let_go_cure(page, let_go, leave, life, run);
+    if let_go(page, life, run).is_some() {
+        return put_let_go_cure(page, leave, life, run);
     }
     let (name, callee) = (held_name(page, life), maker_of_result(page, life, run));
     if !callee.is_empty() {
@@ -60,18 +87,11 @@ fn put_popped_cure(page: &mut ScriptPage<'_>, leave: Leave, life: Life, run: &Wa
 }
 
 /// Writes what to do about a cell that a field had owned and let go of before the leave.
-fn put_let_go_cure(
-    page: &mut ScriptPage<'_>,
-    let_go: LetGo,
-    leave: Leave,
-    life: Life,
-    run: &WatchedRun<'_>,
-) {
+fn put_let_go_cure(page: &mut ScriptPage<'_>, leave: Leave, life: Life, run: &WatchedRun<'_>) {
     let (name, push) = (held_name(page, life), push_of(life.kind));
     let until = line_of_leave(leave, life, run);
-    let LetGo { line, .. } = let_go;
     page.page.write(format_args!(
-        " while no item and no field held the cell: push it before line {until}, with `{push} {name}`, and pop it when its new owner has it; or give it to the new owner before line {line}"
+        " while no item and no field held the cell: push it before line {until}, with `{push} {name}`, and pop it when its new owner has it"
     ));
 }
 

@@ -5,8 +5,9 @@ use crate::runs::dropped::{dropped_result, put_dropped};
 use crate::runs::left_cells::{put_left_cure, put_left_item};
 use crate::runs::let_go::{let_go, put_let_go};
 use crate::runs::overwritten::{put_overwritten, put_second_time};
-use crate::runs::paths::{AfterLine, before_name, put_path};
-use crate::runs::plain_release::{class_name, put_cure_of_plain};
+use crate::runs::paths::{AfterLine, before_name, body_name, put_path};
+use crate::runs::plain_release::{class_name, put_cure_of_deleted, put_cure_of_plain};
+use crate::runs::raised::{RaisedCount, put_cure_of_raised, put_raised, raised_count};
 use crate::runs::script_page::{ScriptPage, Written};
 use crate::runs::taken::{Then, is_to_leave, put_cure_of_left, put_left};
 use crate::runs::unlooked::{put_unlooked, put_unlooked_call, unlooked_result};
@@ -67,8 +68,13 @@ pub fn put_held(page: &mut ScriptPage<'_>, life: Life) -> Written {
 
 /// Says how a cell was lost, and what to do.
 pub fn put_loss(page: &mut ScriptPage<'_>, life: Life, run: &WatchedRun<'_>) -> Written {
-    put_held(page, life)?;
     let loss = loss_of(life, run);
+    if let Some(raised) = raised_for(page, loss, life, run) {
+        put_raised(page, raised, run)?;
+        put_cure_of_raised(page, raised);
+        return Ok(());
+    }
+    put_held(page, life)?;
     if let Loss::Overwritten(line) = loss {
         put_second_time(page, line, life, run)?;
     }
@@ -83,6 +89,9 @@ pub fn put_loss(page: &mut ScriptPage<'_>, life: Life, run: &WatchedRun<'_>) -> 
         let pushed = owner.pushed.number();
         page.mark_new(pushed, 0, "the object that owned it was pushed here")?;
     }
+    if let Loss::OwnerGone(_, ended) = loss {
+        put_deleting_item(page, ended.at.number(), run)?;
+    }
     if let Loss::Left(leave) = loss
         && leave.caught.is_some()
     {
@@ -91,6 +100,34 @@ pub fn put_loss(page: &mut ScriptPage<'_>, life: Life, run: &WatchedRun<'_>) -> 
     }
     put_cure(page, loss, life, run);
     Ok(())
+}
+
+/// Says where the item was pushed that was destroyed last, if the operation of this line is its operation.
+fn put_deleting_item(page: &mut ScriptPage<'_>, line: u32, run: &WatchedRun<'_>) -> Written {
+    let operation = body_name(page, line, run);
+    match run.history.last_item {
+        Some(item) if page.word(item.pushed.line, 2) == operation => page.mark_new(
+            item.pushed.line,
+            2,
+            format_args!("line {line} ran as the operation of the item that was pushed here"),
+        ),
+        _ => Ok(()),
+    }
+}
+
+/// The number of users by which a cell that was lost in this way was kept from being freed; `None` if there is none.
+fn raised_for(
+    page: &ScriptPage<'_>,
+    loss: Loss,
+    life: Life,
+    run: &WatchedRun<'_>,
+) -> Option<RaisedCount> {
+    match loss {
+        Loss::StillNamed | Loss::OutOfScope(_) | Loss::OwnerGone(..) => {
+            raised_count(page, life, run)
+        }
+        Loss::Overwritten(_) | Loss::OwnerLeaks(_) | Loss::Left(_) | Loss::OnStack(_) => None,
+    }
 }
 
 /// Says which line popped the item of a cell, or which line pushed the item if no line popped it. If one body pushed the item and another
@@ -187,10 +224,7 @@ fn put_cure_of_loss(page: &mut ScriptPage<'_>, loss: Loss, life: Life, run: &Wat
             put_cure_of_plain(page, owner, ended, name, life.kind);
         }
         Loss::OwnerGone(owner, ended) => {
-            let (line, class) = (ended.at.number(), class_name(page, owner));
-            page.page.write_help(format_args!(
-                "line {line} deleted the object that owned it: let the `destroy` of `{class}` free the field"
-            ));
+            put_cure_of_deleted(page, owner, ended.at.number(), name, life.kind);
         }
         Loss::OwnerLeaks(owner) => {
             let (line, class) = (owner.made.number(), class_name(page, owner));

@@ -20,7 +20,7 @@ pub fn put_overwritten(
     run: &WatchedRun<'_>,
 ) {
     if let Some(cure) = cure_of_failed(run, line) {
-        return put_cure(page, cure);
+        return put_cure(page, cure, run);
     }
     let release = release_of(kind);
     page.page.begin_help();

@@ -1,6 +1,9 @@
 //! What to do about a cell that the cleanup stack destroyed with its item, though a pointer still named it.
 
 use crate::runs::cures::Cure;
+use crate::runs::item_cures::ItemCure;
+use crate::runs::item_kept::{Deed, kept_past};
+use crate::runs::led::{led_to, left_in_body_of};
 use crate::runs::script_page::ScriptPage;
 use wb_history::{By, End, Ended, Held, PointerFault, PointerState, WatchedRun};
 
@@ -14,7 +17,15 @@ fn holder_of(fault: PointerFault) -> Option<Held> {
 
 /// Returns what to do about a cell that both its item and a field owned. If a leave deleted the cell's object, its second phase may have
 /// left: then the field must not keep the object, so the item must own the object until no line may leave any more.
-pub fn cure_of_two_owners(page: &ScriptPage<'_>, fault: PointerFault, ended: Ended) -> Cure {
+pub fn cure_of_two_owners(
+    page: &ScriptPage<'_>,
+    run: &WatchedRun<'_>,
+    fault: PointerFault,
+    ended: Ended,
+) -> Cure {
+    if let Some(cure) = cure_of_called(page, run, fault) {
+        return cure;
+    }
     match (ended.end, ended.by, holder_of(fault)) {
         (End::Deleted, By::Leave, Some(held)) if held.is_field() => {
             let set = held.line.number();
@@ -28,6 +39,44 @@ pub fn cure_of_two_owners(page: &ScriptPage<'_>, fault: PointerFault, ended: End
             "its item and the field both own it: pop the item as soon as the field has got it, before the next line that may leave",
         ),
     }
+}
+
+/// What to do about a cell that both its item and a field owned, if another body than the one that pushed the item gave it to the field;
+/// `None` otherwise.
+fn cure_of_called(
+    page: &ScriptPage<'_>,
+    run: &WatchedRun<'_>,
+    fault: PointerFault,
+) -> Option<Cure> {
+    let PointerState::Gone(Some(life)) = fault.state else {
+        return None;
+    };
+    let (bodies, held, pushed) = (&run.history.bodies, life.held?, life.pushed.number());
+    let set = held.line.number();
+    if !held.is_field() || bodies.body_of(set) == bodies.body_of(pushed) {
+        return None;
+    }
+    let (met, left) = (left_in_body_of(pushed, run), left_in_body_of(set, run));
+    if let Some(item) = kept_past(page, pushed, set, met, Deed::Gave, run) {
+        return Some(Cure::Item(ItemCure::Kept(item)));
+    }
+    if met == 0 || left <= set {
+        return None;
+    }
+    let is_called = led_to(page, pushed, left.saturating_add(1), run) == left;
+    Some(Cure::Item(match is_called {
+        true => ItemCure::FieldOfCaller {
+            set,
+            pushed,
+            call: left,
+        },
+        false => ItemCure::SetInCall {
+            set,
+            gone: released_before(page, set),
+            pushed,
+            call: met,
+        },
+    }))
 }
 
 /// The line just above the line `set` that releases what the pointer named which the line `set` then sets; 0 if that line releases nothing

@@ -47,6 +47,10 @@ pub const CHECK_FIRST: &str =
 pub const CHECK_IN_DESTRUCTOR: &str =
     "check with `if some` first: a destructor also runs on an object of which only a part was made";
 
+/// What to look for if an operation finds a null pointer.
+pub const CHECK_IN_OPERATION: &str =
+    "check with `if some` first: a leave runs an operation also where only a part was made of what it undoes";
+
 /// Returns where Symbian raises a panic of this category and number; empty for a panic that only this project has.
 pub fn panic_in_symbian(panic: Panic) -> &'static str {
     symbian_of(panic, None)

@@ -1,6 +1,7 @@
 //! What to do about a cell that a field of an object named, if the object was freed as a plain cell.
 
 use crate::runs::script_page::ScriptPage;
+use crate::runs::shared::field_of;
 use wb_heap_model::heap::Kind;
 use wb_history::{By, Ended, Life};
 
@@ -19,11 +20,7 @@ pub fn put_cure_of_plain(
             "line {line} freed the object that owned it as a plain cell, so its destructor didn't run: {cure}"
         ));
     }
-    let field = name.split('.').nth(1).unwrap_or(name);
-    let release = match kind {
-        Kind::Object(_) => "delete",
-        Kind::Raw | Kind::Text | Kind::Cleanup => "free",
-    };
+    let (field, release) = (field_of(name).unwrap_or(name), release_word(kind));
     page.page.begin_help();
     page.page.write(format_args!(
         "line {line} freed the object whose field `{field}` still named it, and `{class}` has no `destroy`: "
@@ -37,6 +34,37 @@ pub fn put_cure_of_plain(
         )),
     }
     page.page.end_line();
+}
+
+/// The word of the line that releases a cell of this kind.
+fn release_word(kind: Kind) -> &'static str {
+    match kind {
+        Kind::Object(_) => "delete",
+        Kind::Raw | Kind::Text | Kind::Cleanup => "free",
+    }
+}
+
+/// Says what to do about a cell that the field `name` of an object named when the line `line` deleted the object.
+pub fn put_cure_of_deleted(
+    page: &mut ScriptPage<'_>,
+    owner: Life,
+    line: u32,
+    name: &str,
+    kind: Kind,
+) {
+    let (class, field, release) = (
+        class_name(page, owner),
+        field_of(name).unwrap_or(name),
+        release_word(kind),
+    );
+    if has_destructor(page, class) {
+        return page.page.write_help(format_args!(
+            "line {line} deleted the object that owned it: let the `destroy` of `{class}` {release} the field `{field}`"
+        ));
+    }
+    page.page.write_help(format_args!(
+        "line {line} deleted the object whose field `{field}` still named it, and `{class}` has no `destroy`: {release} what `{field}` names before line {line}; or let a `destroy` of `{class}` {release} it, and no other line"
+    ));
 }
 
 /// What to do instead of freeing an object as a plain cell. `by` says what freed the object.

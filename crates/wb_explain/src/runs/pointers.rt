@@ -2,17 +2,21 @@
 
 use crate::runs::cures::Cure;
 use crate::runs::destroyed::of_item_without_cell;
+use crate::runs::ended_by_call::ended_by_call;
+use crate::runs::ended_by_line::cure_of_ended_by_line;
 use crate::runs::for_leave::{cure_of_share, ended_by_item};
 use crate::runs::half_made::half_made;
+use crate::runs::item_cures::ItemCure;
+use crate::runs::item_kept::kept_past_use;
 use crate::runs::kept::name_of;
+use crate::runs::new_place::cure_of_moved;
 use crate::runs::owners::{cure_of_leave, cure_of_two_owners};
-use crate::runs::panics::CHECK_FIRST;
+use crate::runs::panics::{CHECK_FIRST, CHECK_IN_OPERATION};
 use crate::runs::script_page::ScriptPage;
-use crate::runs::shared::shared_cell;
 use crate::runs::taken::{LEFT_NONE, cure_of_taken, destroyed_after_callee, taken_with};
 use crate::runs::whole::cure_in_destructor;
 use wb_history::{
-    AttemptMade, BodyKind, By, End, Ended, Life, PointerFault, PointerState, WatchedRun,
+    AttemptMade, BodyKind, By, End, Ended, Life, NULL, PointerFault, PointerState, WatchedRun,
     is_same_field, is_same_pointer, target_of,
 };
 use wb_tree::script::Statement;
@@ -76,7 +80,7 @@ pub fn cure_of(
     match fault.state {
         PointerState::Null => match run.history.bodies.body_of(line).kind {
             BodyKind::Destructor => cure_in_destructor(page, run),
-            BodyKind::Operation => Cure::Words(CHECK_FIRST),
+            BodyKind::Operation => cure_in_operation(page, run, line, fault),
             _ => cure_outside(page, run, line, fault),
         },
         PointerState::Gone(life) if fault.pointer.is_none() => Cure::Words(cure_of_view(life)),
@@ -84,6 +88,28 @@ pub fn cure_of(
             Some(cure) => cure,
             None => cure_of_gone(page, run, line, fault, life),
         },
+    }
+}
+
+/// What to do about a null pointer that an operation uses.
+fn cure_in_operation(
+    page: &ScriptPage<'_>,
+    run: &WatchedRun<'_>,
+    line: u32,
+    fault: PointerFault,
+) -> Cure {
+    if let Some(item) = kept_past_use(page, line, fault, run) {
+        return Cure::Item(ItemCure::Kept(item));
+    }
+    let parameter = page.word(run.history.bodies.body_of(line).line, 2);
+    match run.history.last_item {
+        Some(item) if item.pointer() == NULL && name_of(page, line, fault) == parameter => {
+            Cure::Item(ItemCure::PushedNull {
+                pushed: item.pushed.line,
+                used: line,
+            })
+        }
+        _ => Cure::Words(CHECK_IN_OPERATION),
     }
 }
 
@@ -97,16 +123,30 @@ fn cure_of_gone(
 ) -> Cure {
     match life.and_then(|life| life.ended) {
         Some(ended) if is_out_of_order(run, line, fault, ended) => Cure::Words(
-            "the cleanup stack destroys its newest item first: push what a destructor or an operation uses before the item that uses it",
+            "the cleanup stack destroys its newest item first: push what a destructor or an operation uses before the item that uses it, and let the lines that take the two items off change places, too",
         ),
-        Some(ended) if is_in_item(run, line, life) => {
+        Some(ended) => cure_of_other_end(page, run, line, fault, ended),
+        None => Cure::Words("set the pointer to null when its cell is freed"),
+    }
+}
+
+/// What to do about a pointer whose cell is gone, though the cleanup stack destroys its items in the right order.
+fn cure_of_other_end(
+    page: &ScriptPage<'_>,
+    run: &WatchedRun<'_>,
+    line: u32,
+    fault: PointerFault,
+    ended: Ended,
+) -> Cure {
+    match kept_past_use(page, line, fault, run) {
+        Some(item) => Cure::Item(ItemCure::Kept(item)),
+        None if is_in_item(run, line, fault) => {
             Cure::Words(of_item_without_cell(Some(ended.end)).1)
         }
-        Some(ended) => {
+        None => {
             let ended = ended_by_item(page, run, fault, ended);
             cure_of_ended(page, run, line, fault, ended)
         }
-        None => Cure::Words("set the pointer to null when its cell is freed"),
     }
 }
 
@@ -208,10 +248,10 @@ pub fn is_out_of_order(run: &WatchedRun<'_>, line: u32, fault: PointerFault, end
         && !frees(run, fault)
 }
 
-/// Whether a line is in an operation, and the item that was destroyed last is an item of this cell.
-fn is_in_item(run: &WatchedRun<'_>, line: u32, life: Option<Life>) -> bool {
-    match (life, run.history.last_item) {
-        (Some(life), Some(item)) => {
+/// Whether a line is in an operation, and the item that was destroyed last is an item of the cell at fault.
+fn is_in_item(run: &WatchedRun<'_>, line: u32, fault: PointerFault) -> bool {
+    match (fault.state, run.history.last_item) {
+        (PointerState::Gone(Some(life)), Some(item)) => {
             item.pointer() == life.pointer
                 && run.history.bodies.body_of(line).kind == BodyKind::Operation
         }
@@ -284,15 +324,6 @@ fn cure_of_null(made: AttemptMade<'_>) -> Cure {
     }
 }
 
-/// How the life of an object ended, if a field of the object was the last pointer that was set to the cell, and the cleanup stack destroyed
-/// the object because of a leave; `None` otherwise.
-fn left_owner(run: &WatchedRun<'_>, fault: PointerFault) -> Option<Ended> {
-    match fault.state {
-        PointerState::Gone(Some(life)) => owner_left(run, life),
-        PointerState::Gone(None) | PointerState::Null => None,
-    }
-}
-
 /// Returns how the life of an object ended, if a field of the object was the last pointer that was set to a cell, and the cleanup stack
 /// destroyed the object because of a leave; `None` otherwise.
 pub fn owner_left(run: &WatchedRun<'_>, life: Life) -> Option<Ended> {
@@ -323,58 +354,28 @@ fn cure_of_ended(
     ended: Ended,
 ) -> Cure {
     match (ended.end, ended.by) {
-        (End::Moved, _) => Cure::Words(
-            "a cell that grew may have moved, and then only the result of that line names it",
-        ),
+        (End::Moved, _) => cure_of_moved(page, run, line, fault, ended),
         (_, By::PopDestroy) if taken_with(ended, run).is_some() => cure_of_taken(page, run),
         (_, By::PopDestroy | By::Leave) if frees(run, fault) && run.history.bodies.undoes(line) => {
-            cure_of_two_owners(page, fault, ended)
+            cure_of_two_owners(page, run, fault, ended)
         }
         (_, By::PopDestroy) if destroyed_after_callee(page, ended, run).is_some() => {
             Cure::Words(LEFT_NONE)
         }
-        (_, By::PopDestroy) => Cure::Words(
-            "`popdestroy` frees what it takes off: use `pop` if the cell is to stay, or set the pointer to null after it",
-        ),
-        (_, By::Leave) => cure_of_leave(run, line, fault, ended),
-        (_, By::Line) => match shared_cell(page, run, fault, ended) {
-            Some(shared) => Cure::Shared(shared),
-            None => Cure::Words(cure_of_line(run, line, fault, ended)),
+        (_, By::PopDestroy) => match ended_by_call(
+            page,
+            line,
+            fault,
+            ended,
+            frees(run, fault),
+            run,
+        ) {
+            Some(call) => Cure::EndedByCall(call),
+            None => Cure::Words(
+                "`popdestroy` frees what it takes off: use `pop` if the cell is to stay, or set the pointer to null after it",
+            ),
         },
-    }
-}
-
-/// What to do about a pointer whose cell was freed or deleted by a line.
-fn cure_of_line(
-    run: &WatchedRun<'_>,
-    line: u32,
-    fault: PointerFault,
-    ended: Ended,
-) -> &'static str {
-    let body = run.history.bodies.body_of(ended.at.number());
-    let is_in_destructor = body.kind == BodyKind::Destructor;
-    match ended.end {
-        End::Deleted if !frees(run, fault) => {
-            "delete the object after its last use: this line still uses it"
-        }
-        _ if !frees(run, fault) => "free the cell after its last use: this line still uses it",
-        _ if is_in_destructor && ended.at.number() == line => {
-            "two objects name it: let only one of them own it"
-        }
-        _ if is_in_destructor && run.history.bodies.body_of(line) == body => {
-            "the destructor does it twice: a cell has one owner, so let one of the two lines go, or give each field a cell of its own"
-        }
-        _ if is_in_destructor && left_owner(run, fault).is_some() => {
-            "its field and this pointer both owned it when the leave came: let the field get it only after the last line that may leave, and free it here where that line left"
-        }
-        _ if is_in_destructor => {
-            "the destructor has done this already: leave it to one of the two"
-        }
-        End::Deleted => {
-            "set the pointer to null when its object is deleted: deleting null does nothing"
-        }
-        End::Freed | End::Moved => {
-            "set the pointer to null, for example with `null`, when its cell is freed: freeing null does nothing"
-        }
+        (_, By::Leave) => cure_of_leave(run, line, fault, ended),
+        (_, By::Line) => cure_of_ended_by_line(page, run, line, fault, ended),
     }
 }

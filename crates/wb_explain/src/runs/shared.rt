@@ -67,6 +67,11 @@ pub fn object_of(word: &str) -> &str {
     word.split('.').next().unwrap_or(word)
 }
 
+/// Returns the part of an operand after its dot; `None` if it has none.
+pub fn field_of(word: &str) -> Option<&str> {
+    word.split('.').nth(1)
+}
+
 /// The line that made an object; 0 if it isn't known.
 fn made_at(run: &WatchedRun<'_>, object: Ptr) -> u32 {
     match run.history.lives.find(object) {

@@ -2,6 +2,7 @@
 
 use crate::runs::counts::Many;
 use crate::runs::cures::Cure;
+use crate::runs::left_inside::{left_inside, put_cure_of_inside, put_left_inside};
 use crate::runs::passed::{Passed, passed_push};
 use crate::runs::paths::body_name;
 use crate::runs::script_page::{ScriptPage, Written};
@@ -87,7 +88,8 @@ pub fn put_left(
         format_args!(
             "`{name}` began with {began} on the cleanup stack, and ended after this line with {ended}{then}"
         ),
-    )
+    )?;
+    put_left_inside(page, left_inside(page, body, run))
 }
 
 /// Returns whether a body's name says that the body leaves an item to its caller: such a name ends in `lc` or `LC`.
@@ -102,6 +104,9 @@ pub fn leaves_item(name: &str) -> bool {
 
 /// Says what to do about an item that a body left to its caller.
 pub fn put_cure_of_left(page: &mut ScriptPage<'_>, body: Stay, run: &WatchedRun<'_>) {
+    if let Some(inside) = left_inside(page, body, run) {
+        return put_cure_of_inside(page, inside);
+    }
     let (name, line) = (body_name(page, body.last, run), body.last);
     let left = body.ended.saturating_sub(body.began);
     page.page.begin_help();
