@@ -88,16 +88,12 @@ module _ (script : Script) (budget : ℕ) (shape : Shape) (part : Part) where
 
   every-alone : ((n : ℕ) → IsTriedFine Every n) → (at : Failing) → IsTried Every part (last Every) at → is_fine (run_at script budget shape at) ≡ true
   every-alone fine (failings.Every n) tried = fine n tried
-  every-alone fine (Number n) tried = absurd tried
-  every-alone fine (failings.From n) tried = absurd tried
-  every-alone fine (Pair i j) tried = absurd tried
+  every-alone fine at tried = absurd tried
 
   persistent-alone : ((n : ℕ) → IsTriedFine Persistent n) → (at : Failing) → IsTried Persistent part (last Persistent) at →
       is_fine (run_at script budget shape at) ≡ true
   persistent-alone fine (failings.From n) tried = fine n tried
-  persistent-alone fine (Number n) tried = absurd tried
-  persistent-alone fine (failings.Every n) tried = absurd tried
-  persistent-alone fine (Pair i j) tried = absurd tried
+  persistent-alone fine at tried = absurd tried
 
   answered : (failures : Failures) → HasAnswerIn failures part script budget shape
   answered Single = of-single (set-answer script budget shape part 1)

@@ -10,6 +10,7 @@ use crate::stop::Stop;
 use std::alloc::{AllocError, Global};
 use wb_basics::memory::NoMemory;
 use wb_machine::{Machine, Turn, run_rises};
+use wb_meaning::conditions::Conditions;
 use wb_meaning::progress::Silent;
 use wb_meaning::run::RisesResult;
 use wb_tree::script::Script;
@@ -43,11 +44,13 @@ fn machine<'a>(alloc: Global, script: &'a Script) -> Result<Machine<'a>, NoMemor
 fn rises_of(alloc: Global, script: &Script) -> Result<(RisesResult, u32), NoMemory>
     requires { IsTrue (is_script script.now) }
 {
-    match run_rises(alloc, script, BUDGET, SHAPE, &mut Silent) {
+    let conditions = Conditions {
+        budget: BUDGET,
+        shape: SHAPE,
+    };
+    match run_rises(alloc, script, conditions, &mut Silent) {
         Ok(sized) => Ok(sized),
-        Err(_) => run_rises(alloc, script, BUDGET, SHAPE, &mut Silent).map_err(|_| NoMemory::from(
-            AllocError,
-        )),
+        Err(_) => run_rises(alloc, script, conditions, &mut Silent),
     }
 }
 

@@ -4,17 +4,20 @@ ghost use Rattle.std.specs.Prelude.{◌≡◌, ◌+◌, ◌-◌, ◌*◌, ◌/�
 ghost use Rattle.std.specs.Prelude.{slice_index_or, false, IfOk, IsOk, OnOk, OnErr};
 ghost use Rattle.wb_cells.specs.Bits.{IsLastIn, IsLastOn, IsNext, IsWithBit};
 
+use crate::layout;
 use std::alloc::{AllocError, Global};
 use std::marker::Model;
 use wb_basics::limits::CEILING;
+use wb_chunk::Chunk;
 
 /// The greatest number of places of 16 bytes that a chunk may have. A list may have at most this many bits.
 pub const MOST_PLACES: u32 = CEILING / 16;
 
-/// A list of bits, 32 to a word, which grows at its end.
+/// A list of bits, 32 to a word, which grows at its end. Few bits are on. The chunk knows which of its blocks may have any, so a copy needn't
+/// write the others.
 #[derive(Drop)]
 pub struct Bits {
-    words: Vec<u32>,
+    words: Chunk,
 }
 
 impl Model for Bits {
@@ -23,11 +26,11 @@ impl Model for Bits {
 
     ghost Value = { List Bool };
 
-    ghost view = { λ s. bits_of s.words.items };
+    ghost view = { λ s. bits_of s.words };
 
     ghost use Rattle.wb_cells.specs.declared.bits.TheConstants.{MOST_PLACES};
 
-    ghost invariant = { λ s. 32 * length s.words.items ≤ MOST_PLACES };
+    ghost invariant = { λ s. 32 * length s.words ≤ MOST_PLACES };
 }
 
 impl Bits {
@@ -36,7 +39,7 @@ impl Bits {
         ensures { result ≡ [] }
     {
         Bits {
-            words: Vec::new(alloc),
+            words: Chunk::new(alloc),
         }
     }
 
@@ -45,7 +48,17 @@ impl Bits {
         ensures { IfOk result (λ copy. copy ≡ self.now) }
     {
         Ok(Bits {
-            words: Vec::from_slice(*self.words.allocator(), self.words.as_slice())?,
+            words: self.words.try_copy()?,
+        })
+    }
+
+    /// Returns a copy with the same bits, in the memory of `spare`. The bits of `spare` are lost, and its memory is made larger if
+    /// necessary. Returns `Err` if the allocator refuses memory.
+    pub fn try_copy_over(&self, spare: Bits) -> Result<Bits, AllocError>
+        ensures { IfOk result (λ copy. copy ≡ self.now) }
+    {
+        Ok(Bits {
+            words: self.words.try_copy_over(spare.words)?,
         })
     }
 
@@ -54,7 +67,7 @@ impl Bits {
         ensures count { result ≡ length self.now }
         ensures most { length self.now ≤ MOST_PLACES }
     {
-        32 * self.words.len() as u32
+        32 * self.words.words()
     }
 
     /// Appends bits that are off, 32 at a time, until there are at least `count` bits. The call takes no memory if there are at least
@@ -66,23 +79,18 @@ impl Bits {
         ensures enough { count ≤ length self.old → IsOk result }
         ensures refused { OnErr result (self.new ≡ self.old) }
     {
-        let words = count.div_ceil(32) as usize;
-        if self.words.len() < words {
-            self.words.resize(words, 0)?;
-        }
-        Ok(())
+        layout::grow_to(&mut self.words, count.div_ceil(32))
     }
 
     /// Whether the bit at index `at` is on. Bits past the end of the list are off.
     pub fn is_on(&self, at: u32) -> bool
         ensures { result ≡ slice_index_or self.now at false }
     {
-        let words = self.words.as_slice();
-        let index = at as usize / 32;
-        if words.len() <= index {
+        let index = at / 32;
+        if self.words.words() <= index {
             return false;
         }
-        words[index] >> (at % 32) & 1 == 1
+        self.words.word(index) >> (at % 32) & 1 == 1
     }
 
     /// Turns the bit at index `at` on or off.
@@ -90,20 +98,19 @@ impl Bits {
         requires { at < length self.old }
         ensures { self.new ≡ slice_set self.old at on }
     {
-        let words = self.words.as_mut_slice();
-        let index = at as usize / 32;
-        words[index] = with_bit(words[index], at % 32, on);
+        let index = at / 32;
+        let word = with_bit(self.words.word(index), at % 32, on);
+        self.words.set_word(index, word);
     }
 
     /// Returns the index of the first bit that is on, at index `from` or above; `None` if there is no such bit.
     pub fn next(&self, from: u32) -> Option<u32>
         ensures { IsNext self.now from result }
     {
-        let words = self.words.as_slice();
         let count = self.count();
         let mut at = from;
         while at < count {
-            let rest = words[at as usize / 32] >> (at % 32);
+            let rest = self.words.word(at / 32) >> (at % 32);
             if rest != 0 {
                 return Some(at + rest.trailing_zeros());
             }
@@ -116,12 +123,11 @@ impl Bits {
     pub fn last(&self, from: u32, end: u32) -> Option<u32>
         ensures { IsLastOn self.now from end result }
     {
-        let words = self.words.as_slice();
         let mut stop = end.min(self.count());
         while from < stop {
             let top = stop - 1;
             stop = top / 32 * 32;
-            if let Some(bit) = last_in(words[top as usize / 32], top % 32) {
+            if let Some(bit) = last_in(self.words.word(top / 32), top % 32) {
                 let at = stop + bit;
                 return if from <= at { Some(at) } else { None };
             }

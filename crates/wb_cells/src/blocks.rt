@@ -56,6 +56,20 @@ impl Blocks {
         })
     }
 
+    /// Returns a copy with the same numbers, in the memory of `spare`. The numbers of `spare` are lost, and its memory is made larger if
+    /// necessary. Returns `Err` if the allocator refuses memory.
+    pub fn try_copy_over(&self, spare: Blocks) -> Result<Blocks, AllocError>
+        ensures { IfOk result (λ copy. copy ≡ self.now) }
+    {
+        let ranked = self.ranked.try_copy_over(spare.ranked)?;
+        let (latest, number) = (self.latest, self.number);
+        Ok(Blocks {
+            ranked,
+            latest,
+            number,
+        })
+    }
+
     /// Appends numbers that are 0 until there are `count` numbers. The call takes no memory if there are at least `count` numbers already.
     /// If the allocator refuses memory, the call returns `Err` and leaves the numbers as they were.
     pub fn grow_to(&mut self, count: u32) -> Result<(), AllocError>

@@ -98,12 +98,12 @@ impl Cells {
     {
         let Cells {
             words,
-            starts: _,
+            starts,
             gaps,
             ends: _,
         } = spare;
         let words = self.words.try_copy_over(words)?;
-        let starts = self.starts.try_copy()?;
+        let starts = self.starts.try_copy_over(starts)?;
         let gaps = self.gaps.try_copy_over(gaps)?;
         let ends = self.ends;
         Ok(Cells {

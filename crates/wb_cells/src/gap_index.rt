@@ -62,7 +62,7 @@ impl GapIndex {
         ensures { IfOk result (λ copy. copy ≡ self.now) }
     {
         let lengths = self.lengths.try_copy_over(spare.lengths)?;
-        let blocks = self.blocks.try_copy()?;
+        let blocks = self.blocks.try_copy_over(spare.blocks)?;
         Ok(GapIndex { lengths, blocks })
     }
 

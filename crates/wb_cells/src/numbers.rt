@@ -56,7 +56,7 @@ impl Numbers {
         ensures { IfOk result (λ copy. copy ≡ self.now) }
     {
         let words = self.words.try_copy_over(spare.words)?;
-        let marks = self.marks.try_copy()?;
+        let marks = self.marks.try_copy_over(spare.marks)?;
         Ok(Numbers { words, marks })
     }
 

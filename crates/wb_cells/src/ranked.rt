@@ -54,6 +54,18 @@ impl Ranked {
         })
     }
 
+    /// Returns a copy with the same numbers, in the memory of `spare`. The numbers of `spare` are lost, and its memory is made larger if
+    /// necessary. Returns `Err` if the allocator refuses memory.
+    pub fn try_copy_over(&self, spare: Ranked) -> Result<Ranked, AllocError>
+        ensures { IfOk result (λ copy. copy ≡ self.now) }
+    {
+        Ok(Ranked {
+            numbers: self.numbers.try_copy_over(spare.numbers)?,
+            spans: self.spans.try_copy_over(spare.spans)?,
+            greatest: self.greatest,
+        })
+    }
+
     /// Appends numbers that are 0 until there are `count` numbers. The call takes no memory if there are at least `count` numbers already.
     /// If the allocator refuses memory, the call returns `Err` and leaves the numbers as they were.
     pub fn grow_to(&mut self, count: u32) -> Result<(), AllocError>

@@ -1,31 +1,28 @@
-//! The debug heap: attempts and releases. Marks are in `marks`, and the calls that set which attempts fail are in `failing`. Notes are in
-//! `notes`, headers and the words of payloads are in `payloads`, and other readers are in `readers`. The cells are in the crate `wb_rheap`.
+//! The debug heap: attempts and releases. New heaps are in `new_heaps`, marks in `marks`, and the calls that set which attempts fail in
+//! `failing`. Notes are in `notes`, headers and the words of payloads are in `payloads`, and other readers are in `readers`. The cells are
+//! in the crate `wb_rheap`.
 
-ghost use Rattle.std.specs.Prelude.{◌≡◌, ◌≢◌, ◌+◌, ◌^◌, ◌<◌, ◌≤◌, ◌↔◌, [], false, true, None, Some, is_some, length};
+ghost use Rattle.std.specs.Prelude.{◌≡◌, ◌+◌, ◌^◌, ◌<◌, ◌≤◌, true, None, Some, length};
 ghost use Rattle.std.specs.Prelude.{option_map, IfOk, IfErr, IfSome, IsOk, IsErr, IsOkAnd, IsSome, OnOk, OnErr};
 ghost use Rattle.wb_debug.specs.Log.{IsTakenBack};
-ghost use Rattle.wb_heap_model.specs.Debug.{IsSoundDebug, alloc_made, answer_in, debug_without, first_debug};
-ghost use Rattle.wb_heap_model.specs.Debug.{first_debug_of, leaks_of_heap, keeps_rises, number_of_next};
+ghost use Rattle.wb_heap_model.specs.Debug.{IsSoundDebug, alloc_made, answer_in, debug_without};
+ghost use Rattle.wb_heap_model.specs.Debug.{leaks_of_heap, keeps_rises, number_of_next};
 ghost use Rattle.wb_heap_model.specs.Reported.{trace_line};
 ghost use Rattle.wb_heap_model.specs.Debug.{realloc_made, release_refusal};
 ghost use Rattle.wb_heap_model.specs.Heap.{alloc_request, realloc_request, request_at};
-ghost use Rattle.wb_heap_model.specs.Rises.{first_rises};
 ghost use Rattle.wb_heap_model.specs.Row.{cell_at, cell_length};
-ghost use Rattle.wb_heap_model.specs.Space.{is_shape};
 ghost use Rattle.wb_heap_model.specs.declared.heap.Attempt.{Attempt};
-ghost use Rattle.wb_heap_model.specs.declared.heap.Rule.TheVariants.{Unlimited};
 
 use crate::checks;
-use crate::fault::DebugFault;
 use crate::log::Log;
-use crate::rules::{answer, cell_length, limit_under};
+use crate::rules::{answer, cell_length};
 use crate::setting::Setting;
 use crate::tally::Tally;
 use std::alloc::{AllocError, Global};
 use std::marker::Model;
 use wb_basics::limits::CEILING;
 use wb_basics::memory::NoMemory;
-use wb_heap_model::heap::{Answer, Attempt, Gave, Header, Kind, Panic, Ptr, Rule, Shape};
+use wb_heap_model::heap::{Answer, Attempt, Gave, Header, Kind, Panic, Ptr, Rule};
 use wb_heap_model::reported::{Leaks, Trace};
 use wb_heap_model::size::Rises;
 use wb_rheap::{Heap, HeapFault};
@@ -81,34 +78,6 @@ impl Model for DebugHeap {
 }
 
 impl DebugHeap {
-    /// Returns a heap with no cell and no attempt yet. The heap keeps a line for each attempt.
-    ///
-    /// The rule's limit is in bytes. Returns `BadShape` exactly if the shape isn't allowed; otherwise `NoMemory` if the workbench's memory
-    /// runs out. `NoMemory` can't happen if the committed length is 0.
-    pub fn new(alloc: Global, rule: Rule, shape: Shape) -> Result<DebugHeap, DebugFault>
-        ensures ok { IfOk result (λ heap. heap ≡ first_debug rule shape) }
-        ensures shape { (result ≡ Err DebugFault.BadShape) ↔ (is_shape shape ≡ false) }
-        ensures no_growth { (first_debug rule shape).committed ≡ 0 →
-            result ≢ Err DebugFault.NoMemory }
-        ensures sound { IfOk result IsSoundDebug }
-    {
-        with_log(alloc, rule, shape, Log::of_lines(alloc))
-    }
-
-    /// Returns a heap with no cell, under `Rule::Unlimited`, that keeps only rises. A rise is a granted attempt whose cell ends past the
-    /// ends of all cells that were granted earlier. An attempt that isn't a rise adds nothing to the heap's records.
-    ///
-    /// Returns `BadShape` and `NoMemory` in the same cases as `new`.
-    pub fn new_rises(alloc: Global, shape: Shape) -> Result<DebugHeap, DebugFault>
-        ensures ok { IfOk result (λ heap. heap ≡ first_debug_of true Unlimited shape) }
-        ensures shape { (result ≡ Err DebugFault.BadShape) ↔ (is_shape shape ≡ false) }
-        ensures no_growth { (first_debug Unlimited shape).committed ≡ 0 →
-            result ≢ Err DebugFault.NoMemory }
-        ensures sound { IfOk result IsSoundDebug }
-    {
-        with_log(alloc, Rule::Unlimited, shape, Log::of_rises(alloc))
-    }
-
     /// Returns a copy of the heap with its attempts, its trace, its marks and the script's setting, in newly allocated memory. A later
     /// change to the copy or to the original doesn't change the other. Returns `NoMemory` if the workbench's memory runs out.
     pub fn try_copy(&self) -> Result<DebugHeap, NoMemory>
@@ -200,32 +169,6 @@ impl DebugHeap {
         } = self;
         (log, heap)
     }
-}
-
-/// Returns a heap with no cell that records its attempts in `log`. `log` must be empty.
-fn with_log(alloc: Global, rule: Rule, shape: Shape, log: Log) -> Result<DebugHeap, DebugFault>
-    requires trace { log.trace ≡ [] }
-    requires rises { log.rises ≡ first_rises (is_some log.rises) }
-    ensures ok { IfOk result (λ heap. heap ≡ first_debug_of (is_some log.rises) rule shape) }
-    ensures shape { (result ≡ Err DebugFault.BadShape) ↔ (is_shape shape ≡ false) }
-    ensures no_growth { (first_debug rule shape).committed ≡ 0 → result ≢ Err DebugFault.NoMemory }
-    ensures sound { IfOk result IsSoundDebug }
-{
-    let heap = match Heap::new(alloc, limit_under(&rule), shape) {
-        Ok(heap) => heap,
-        Err(HeapFault::BadShape) => return Err(DebugFault::BadShape),
-        Err(_) => return Err(DebugFault::NoMemory),
-    };
-    Ok(DebugHeap {
-        alloc,
-        heap,
-        rule,
-        level: 0,
-        setting: Setting::Never,
-        attempts: 0,
-        log,
-        tally: Tally::new(),
-    })
 }
 
 /// The attempts to get a cell, and the releases.

@@ -20,6 +20,7 @@ pub mod fault;
 mod level_counts;
 mod log;
 mod marks;
+mod new_heaps;
 mod notes;
 mod payloads;
 mod readers;

@@ -15,7 +15,7 @@ use wb_script::read;
 use wb_tree::script::Script;
 
 /// What the comparisons found.
-#[derive(Clone, Copy, Debug, PartialEq, Eq)]
+#[derive(Debug, Drop)]
 pub(crate) enum Comparison {
     /// Each fork has the same result as its whole run, the run that is made from its beginning with the same failure. In `forks` forks one
     /// attempt fails, `forks` forks have a rate, in `forks` forks all attempts from one on fail, and in `pairs` forks two attempts fail.

@@ -21,10 +21,10 @@ pub(crate) fn compare_forks(
 ) -> Result<Comparison, RunFault>
     requires { IsTrue (is_script script.now) }
 {
-    let none = failures.at(0);
-    let mut lead = Machine::new(alloc, script, none.rule(), BUDGET, SHAPE)?;
+    let rule = failures.at(0).rule();
+    let mut lead = Machine::new(alloc, script, rule, BUDGET, SHAPE)?;
     let forks = walk(alloc, script, failures, &mut lead);
-    if comes_to_run(alloc, script, &none.rule(), lead)? {
+    if comes_to_run(alloc, script, &failures.at(0).rule(), lead)? {
         forks
     } else {
         Ok(Comparison::OtherRun)
@@ -83,7 +83,6 @@ fn is_fork_as_run(
     requires well { lead.now.failed ≡ false }
     requires lines { lead.now.keeps_rises ≡ false }
 {
-    let failing = failures.at(number);
-    let run_result = result_under(lead, failing.rule(), spare)?;
-    is_result(alloc, script, &failing.rule(), &run_result)
+    let run_result = result_under(lead, failures.at(number).rule(), spare)?;
+    is_result(alloc, script, &failures.at(number).rule(), &run_result)
 }

@@ -52,6 +52,7 @@ fn say(rt: &HostRuntime) -> io::Result<ExitCode> {
         Some(Comparison::OtherFork(Failing::Pair(first, second))) => {
             println!(rt; "another result where attempts {first} and {second} fail")?;
         }
+        Some(Comparison::OtherFork(Failing::Set(_))) => println!(rt; "another result of a set")?,
         Some(Comparison::OtherRun) => println!(rt; "another result of the run itself")?,
         Some(Comparison::OtherMeeting(number)) => {
             println!(rt; "another result after a meeting where attempt {number} fails")?;

@@ -3,8 +3,10 @@
 
 ghost use Rattle.std.specs.Prelude.{◌≡◌, ◌+◌, ◌/◌, ◌^◌, ◌<◌, ◌≤◌, false, IfOk};
 ghost use Rattle.wb_heap_model.specs.Row.{end_of, pointer_to, usable_of};
+ghost use Rattle.wb_heap_model.specs.Space.{is_shape};
 
 use wb_basics::items::Items;
+use wb_basics::limits::{LARGEST_MINIMUM, LARGEST_STEP, SMALLEST_STEP};
 use wb_basics::memory::NoMemory;
 
 /// A pointer, which names a cell by the cell's place and allocation number. A pointer with number 0 is null.
@@ -131,7 +133,7 @@ pub struct Shape {
 
 impl Shape {
     /// Returns the shape with this least length and this growth step, both in bytes. In this shape a cell that grows stays in place if it
-    /// can. `min` and `step` should be in the ranges that `Shape` gives, but `new` doesn't check the ranges.
+    /// can. `min` and `step` should be in the ranges that `Shape` gives, but only `is_allowed` checks the ranges.
     pub fn new(min: u32, step: u32) -> Shape
         ensures { result ≡ record { min = min; step = step; moving = false } }
     {
@@ -140,6 +142,17 @@ impl Shape {
             step,
             moving: false,
         }
+    }
+
+    /// Whether the shape is one that a heap may have.
+    pub fn is_allowed(self) -> bool
+        ensures { result ≡ is_shape self }
+    {
+        self.min % 16 == 0
+            && self.min <= LARGEST_MINIMUM
+            && self.step % 16 == 0
+            && self.step >= SMALLEST_STEP
+            && self.step <= LARGEST_STEP
     }
 }
 

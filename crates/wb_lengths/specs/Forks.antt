@@ -1,5 +1,5 @@
 -- Runs in which the attempts of a set fail, and copies of them, from which the runs in shorter heaps go on.
-use Rattle.std.specs.Prelude.{◌≡◌, ℕ, Option, IfSome}
+use Rattle.std.specs.Prelude.{◌≡◌, ℕ}
 use Rattle.std.specs.List.{All}
 use Rattle.wb_heap_model.specs.declared.heap.Shape.{Shape}
 use Rattle.wb_tree.specs.declared.script.Script.{Script}
@@ -35,12 +35,6 @@ GoesOn old run new next =
     (script : Script) (budget : ℕ) (shape : Shape) → AreOf script budget shape old → IsOf script budget shape run →
     AreOf script budget shape new × IsOf script budget shape next
 
--- it goes on, or is given up
-abbrev pub GoesOnOrNot : Forks → SetRun → Forks → Option SetRun → Type 0
-GoesOnOrNot old run new next =
-    (script : Script) (budget : ℕ) (shape : Shape) → AreOf script budget shape old → IsOf script budget shape run →
-    AreOf script budget shape new × IfSome next (IsOf script budget shape)
-
--- forks of a script give a run of it, or none
-abbrev pub GivesRun : Script → ℕ → Shape → Forks → Forks → Option SetRun → Type 0
-GivesRun script budget shape old new run = AreOf script budget shape old → AreOf script budget shape new × IfSome run (IsOf script budget shape)
+-- forks of a script give a run of it
+abbrev pub GivesRun : Script → ℕ → Shape → Forks → Forks → SetRun → Type 0
+GivesRun script budget shape old new run = AreOf script budget shape old → AreOf script budget shape new × IsOf script budget shape run

@@ -1,11 +1,9 @@
 //! How the runs of a script end in heaps of every length, found by runs from the longest heap down.
 
-ghost use Rattle.std.specs.Prelude.{◌≡◌, ◌≢◌, ◌↔◌, ◌+◌, ◌-◌, ◌<◌, ◌≤◌, None, false, IfOk, IfSome, IsTrue, OnOk};
-ghost use Rattle.wb_heap_model.specs.Space.{is_shape};
+ghost use Rattle.std.specs.Prelude.{◌≡◌, ◌≢◌, ◌+◌, ◌-◌, ◌<◌, ◌≤◌, None, false, IfOk, IfSome, IsTrue, OnOk};
 ghost use Rattle.wb_tree.specs.Sound.{is_script};
 ghost use Rattle.wb_runs.specs.Lengths.{run_in, IsLeastBadLength, IsLengthTable, IsNoBadLength};
 ghost use Rattle.wb_heap_model.specs.Rises.{highest_end};
-ghost use Rattle.wb_machine.specs.declared.fault.RunFault.TheVariants.{BadShape};
 ghost use Rattle.wb_lengths.specs.Lengths.{AreLengths, first_bad, has_cut};
 ghost use Rattle.wb_lengths.specs.Forks.{AreOf};
 ghost use Rattle.wb_lengths.specs.Walk.{IsRightFrom};
@@ -14,12 +12,14 @@ use crate::heap_runs::HeapRuns;
 use crate::highest_end::highest_end;
 use crate::table_so_far::TableSoFar;
 use std::alloc::Global;
-use wb_basics::limits::{CEILING, LARGEST_BUDGET};
-use wb_heap_model::heap::{Rule, Shape};
-use wb_machine::{RunFault, run};
+use wb_basics::limits::CEILING;
+use wb_basics::memory::NoMemory;
+use wb_heap_model::heap::Rule;
+use wb_machine::run_reporting;
+use wb_meaning::conditions::Conditions;
 use wb_meaning::run::RunResult;
 use wb_runs::lengths::LengthTable;
-use wb_runs::progress::Progress;
+use wb_runs::progress::{Progress, Silent};
 use wb_runs::run_end::RunEnd;
 use wb_tree::script::Script;
 
@@ -42,8 +42,7 @@ pub struct LengthFindings {
 
 /// Finds how the runs of a script end in heaps of all lengths from 0 to the ceiling, 16 MiB, and the least of these lengths whose run leaks
 /// or panics, with the result of that run. Lengths whose runs are cut at the budget (a number of steps) make ranges of the table too.
-/// `BadShape` is returned exactly if no heap may have this shape, even if memory would run out as well. `progress` is notified of
-/// each run from which the table is made, and of the steps that it has taken.
+/// `progress` is notified of each run from which the table is made, and of the steps that it has taken.
 ///
 /// One run gives the result for many lengths. A cell that a heap refuses would end past the heap. So if no granted cell of a run ends past
 /// some shorter length, the run in a heap of this shorter length is the same except for notes. So one run is made for each range of lengths
@@ -51,18 +50,14 @@ pub struct LengthFindings {
 pub fn lengths<P: Progress>(
     alloc: Global,
     script: &Script,
-    budget: u32,
-    shape: Shape,
+    conditions: Conditions,
     progress: &mut P,
-) -> Result<LengthFindings, RunFault>
+) -> Result<LengthFindings, NoMemory>
     requires script { IsTrue (is_script script.now) }
-    requires least { 1 ≤ budget }
-    requires greatest { budget ≤ LARGEST_BUDGET }
-    ensures lengths { IfOk result (AreLengths script.now budget shape) }
-    ensures shape { (result ≡ Err RunFault.BadShape) ↔ (is_shape shape ≡ false) }
+    ensures lengths { IfOk result (AreLengths script.now conditions.budget conditions.shape) }
 {
     progress.begin_lengths();
-    let found = find_lengths(alloc, script, budget, shape, progress);
+    let found = find_lengths(alloc, script, conditions, progress);
     progress.end();
     found
 }
@@ -72,21 +67,17 @@ pub fn lengths<P: Progress>(
 pub fn lengths_within<P: Progress>(
     alloc: Global,
     script: &Script,
-    budget: u32,
-    shape: Shape,
+    conditions: Conditions,
     steps: u32,
     progress: &mut P,
-) -> Result<Option<LengthTable>, RunFault>
+) -> Result<Option<LengthTable>, NoMemory>
     requires script { IsTrue (is_script script.now) }
-    requires least { 1 ≤ budget }
-    requires greatest { budget ≤ LARGEST_BUDGET }
     ensures table { IfOk result (λ found.
-        IfSome found (IsLengthTable script.now budget shape)) }
-    ensures shape { (result ≡ Err RunFault.BadShape) ↔ (is_shape shape ≡ false) }
+        IfSome found (IsLengthTable script.now conditions.budget conditions.shape)) }
 {
     let mut runs = HeapRuns::new(alloc, Some(steps));
     progress.begin_lengths();
-    let found = find_table(&mut runs, script, budget, shape, progress);
+    let found = find_table(&mut runs, script, conditions, progress);
     progress.end();
     found
 }
@@ -95,20 +86,16 @@ pub fn lengths_within<P: Progress>(
 fn find_lengths<P: Progress>(
     alloc: Global,
     script: &Script,
-    budget: u32,
-    shape: Shape,
+    conditions: Conditions,
     progress: &mut P,
-) -> Result<LengthFindings, RunFault>
+) -> Result<LengthFindings, NoMemory>
     requires script { IsTrue (is_script script.now) }
-    requires least { 1 ≤ budget }
-    requires greatest { budget ≤ LARGEST_BUDGET }
-    ensures lengths { IfOk result (AreLengths script.now budget shape) }
-    ensures shape { (result ≡ Err RunFault.BadShape) ↔ (is_shape shape ≡ false) }
+    ensures { IfOk result (AreLengths script.now conditions.budget conditions.shape) }
 {
     let mut runs = HeapRuns::new(alloc, None);
-    match find_table(&mut runs, script, budget, shape, progress)? {
+    match find_table(&mut runs, script, conditions, progress)? {
         Some(table) => Ok(LengthFindings {
-            bad: find_bad(alloc, script, budget, shape, &table)?,
+            bad: find_bad(alloc, script, conditions, &table)?,
             is_cut: has_cut(&table),
             table,
         }),
@@ -121,23 +108,20 @@ fn find_lengths<P: Progress>(
 fn find_bad(
     alloc: Global,
     script: &Script,
-    budget: u32,
-    shape: Shape,
+    conditions: Conditions,
     table: &LengthTable,
-) -> Result<Option<BadLength>, RunFault>
+) -> Result<Option<BadLength>, NoMemory>
     requires script { IsTrue (is_script script.now) }
-    requires least { 1 ≤ budget }
-    requires greatest { budget ≤ LARGEST_BUDGET }
-    requires table { IsLengthTable script.now budget shape table.now }
+    requires table { IsLengthTable script.now conditions.budget conditions.shape table.now }
     ensures bad { IfOk result (λ found. IfSome found (λ bad.
-        IsLeastBadLength script.now budget shape bad.length bad.result)) }
-    ensures none { IfOk result (λ found. found ≡ None → IsNoBadLength script.now budget shape) }
-    ensures shape { result ≡ Err RunFault.BadShape → is_shape shape ≡ false }
+        IsLeastBadLength script.now conditions.budget conditions.shape bad.length bad.result)) }
+    ensures none { IfOk result (λ found. found ≡ None →
+        IsNoBadLength script.now conditions.budget conditions.shape) }
 {
     let Some(length) = first_bad(table) else {
         return Ok(None);
     };
-    let result = run(alloc, script, Rule::Limit(length), budget, shape)?;
+    let result = run_reporting(alloc, script, Rule::Limit(length), conditions, &mut Silent)?;
     Ok(Some(BadLength { length, result }))
 }
 
@@ -169,24 +153,20 @@ fn has_cut(table: &LengthTable) -> bool
 fn find_table<'a, P: Progress>(
     runs: &mut HeapRuns<'a>,
     script: &'a Script,
-    budget: u32,
-    shape: Shape,
+    conditions: Conditions,
     progress: &mut P,
-) -> Result<Option<LengthTable>, RunFault>
+) -> Result<Option<LengthTable>, NoMemory>
     requires script { IsTrue (is_script script.now) }
-    requires least { 1 ≤ budget }
-    requires greatest { budget ≤ LARGEST_BUDGET }
-    requires forks { AreOf script.now budget shape runs.old.forks }
+    requires forks { AreOf script.now conditions.budget conditions.shape runs.old.forks }
     ensures table { IfOk result (λ found.
-        IfSome found (IsLengthTable script.now budget shape)) }
+        IfSome found (IsLengthTable script.now conditions.budget conditions.shape)) }
     ensures whole { runs.old.steps_left ≡ None → IfOk result (λ found. found ≢ None) }
-    ensures shape { (result ≡ Err RunFault.BadShape) ↔ (is_shape shape ≡ false) }
 {
     let mut table = TableSoFar::new(runs.alloc);
     let mut next = CEILING + 1;
     while next > 0 {
         progress.begin_length(next - 1);
-        let below = put_lengths_below(runs, &mut table, script, budget, shape, next, progress)?;
+        let below = put_lengths_below(runs, &mut table, script, conditions, next, progress)?;
         let Some(from) = below else {
             return Ok(None);
         };
@@ -201,29 +181,25 @@ fn put_lengths_below<'a, P: Progress>(
     runs: &mut HeapRuns<'a>,
     table: &mut TableSoFar,
     script: &'a Script,
-    budget: u32,
-    shape: Shape,
+    conditions: Conditions,
     next: u32,
     progress: &mut P,
-) -> Result<Option<u32>, RunFault>
+) -> Result<Option<u32>, NoMemory>
     requires script { IsTrue (is_script script.now) }
-    requires some { 1 ≤ budget }
-    requires greatest { budget ≤ LARGEST_BUDGET }
     requires within { (1 ≤ next) × (next ≤ CEILING + 1) }
-    requires so_far { IsRightFrom script.now budget shape next table.old }
-    requires forks { AreOf script.now budget shape runs.old.forks }
-    requires shaped { is_shape shape ≡ false → next ≡ CEILING + 1 }
+    requires so_far { IsRightFrom script.now conditions.budget conditions.shape next table.old }
+    requires forks { AreOf script.now conditions.budget conditions.shape runs.old.forks }
     ensures least { IfOk result (λ found. IfSome found (λ from. from
-        ≡ highest_end (run_in script.now budget shape (next - 1)).trace)) }
+        ≡ highest_end (run_in script.now conditions.budget conditions.shape (next - 1)).trace)) }
     ensures shorter { IfOk result (λ found. IfSome found (λ from. from < next)) }
     ensures right { IfOk result (λ found. IfSome found (λ from.
-        IsRightFrom script.now budget shape from table.new)) }
-    ensures forks { OnOk result (AreOf script.now budget shape runs.new.forks) }
+        IsRightFrom script.now conditions.budget conditions.shape from table.new)) }
+    ensures forks { OnOk result
+        (AreOf script.now conditions.budget conditions.shape runs.new.forks) }
     ensures unbounded { runs.old.steps_left ≡ None → runs.new.steps_left ≡ None }
     ensures whole { runs.old.steps_left ≡ None → IfOk result (λ found. found ≢ None) }
-    ensures shape { (result ≡ Err RunFault.BadShape) ↔ (is_shape shape ≡ false) }
 {
-    let Some(run_result) = runs.run(script, budget, shape, next - 1, progress)? else {
+    let Some(run_result) = runs.run(script, conditions, next - 1, progress)? else {
         return Ok(None);
     };
     let from = highest_end(&run_result.trace);

@@ -5,12 +5,9 @@
 //! those of a set, and one more attempt is added to the set whenever a granted cell ends past the heap. How the run was found doesn't
 //! matter: in the end, its trace shows whether it is the run in the heap.
 
-ghost use Rattle.std.specs.Prelude.{◌≡◌, ◌≤◌, false, IfOk, IfSome, IsTrue, OnOk};
-ghost use Rattle.wb_basics.specs.declared.limits.TheConstants.{CEILING};
-ghost use Rattle.wb_heap_model.specs.Space.{is_shape};
-ghost use Rattle.wb_lengths.specs.Forks.{AreOf, GivesRun, GoesOn, GoesOnOrNot, IsOf};
+ghost use Rattle.std.specs.Prelude.{◌≡◌, false, IfOk, IfSome, IsTrue, OnOk};
+ghost use Rattle.wb_lengths.specs.Forks.{AreOf, GivesRun, GoesOn, IsOf};
 ghost use Rattle.wb_lengths.specs.SetHeaps.{TellsRunIn};
-ghost use Rattle.wb_machine.specs.declared.fault.RunFault.TheVariants.{BadShape};
 ghost use Rattle.wb_tree.specs.Sound.{is_script};
 ghost use Rattle.wb_heap_model.specs.declared.heap.Shape.{Shape};
 ghost use Rattle.wb_tree.specs.declared.script.Script.{Script};
@@ -18,171 +15,156 @@ ghost use Rattle.std.specs.Prelude.{ℕ};
 
 use crate::certificate::shows_run_in;
 use crate::forks::{Forks, MOST_FORKS};
-use crate::parting::{MOST_ATTEMPTS, MOST_STEPS, numbers_below, parting_of};
+use crate::parting::{MOST_ATTEMPTS, MOST_STEPS, attempts_of, numbers_below, parting_of};
 use crate::set_run::SetRun;
-use wb_basics::limits::LARGEST_BUDGET;
+use std::mem::replace;
 use wb_basics::memory::NoMemory;
 use wb_heap_model::heap::Shape;
-use wb_machine::{Finished, RunFault};
+use wb_machine::Finished;
+use wb_meaning::conditions::Conditions;
 use wb_meaning::run::RunResult;
 use wb_tree::script::Script;
 
 impl<'a> Forks<'a> {
-    /// Judges the attempt that a run has just made in a heap of this length, in bytes, and returns the run that goes on; `before` is a copy
-    /// from before the attempt. If the cell ends past the heap or the ceiling, the copy goes on instead, and refuses the attempt. If the
-    /// cell ends past all earlier cells, the copy is kept as a fork.
-    fn judge(
-        &mut self,
-        mut before: SetRun<'a>,
-        after: SetRun<'a>,
-        length: u32,
-    ) -> Result<SetRun<'a>, NoMemory>
-        ensures { IfOk result (λ next. (script : Script) (budget : ℕ) (shape : Shape) →
+    /// Puts `before`, a copy from before a run's last attempt, in the run's place, and refuses the attempt.
+    fn refuse_instead(&mut self, run: &mut SetRun<'a>, before: SetRun<'a>) -> Result<(), NoMemory>
+        ensures { (script : Script) (budget : ℕ) (shape : Shape) →
             AreOf script budget shape self.old → IsOf script budget shape before.entry →
-            IsOf script budget shape after.entry →
-            AreOf script budget shape self.new × IsOf script budget shape next) }
+            AreOf script budget shape self.new × IsOf script budget shape run.new }
     {
-        if after.machine.attempts() == before.machine.attempts() || after.top > length {
-            self.give_up(after)?;
-            before.refuse()?;
-            return Ok(before);
-        }
-        if after.top > before.top {
-            self.push(before, length)?;
-        } else {
-            self.give_up(before)?;
-        }
-        Ok(after)
+        let past = replace(run, before);
+        self.give_up(past)?;
+        run.refuse()
     }
 
-    /// Takes the next turn of a run in a heap of this length, in bytes, and makes a copy first if the turn makes an attempt.
-    fn take_turn(&mut self, mut run: SetRun<'a>, length: u32) -> Result<SetRun<'a>, NoMemory>
-        ensures { IfOk result (GoesOn self.old run.entry self.new) }
+    /// Judges the attempt that a run has just made in a heap of this length, in bytes; `before` is a copy from before the attempt. If the
+    /// cell ends past the heap or the ceiling, the run goes on from the copy instead, and the attempt is refused. If the cell ends past all
+    /// earlier cells, the copy is kept as a fork.
+    fn judge(
+        &mut self,
+        run: &mut SetRun<'a>,
+        before: SetRun<'a>,
+        length: u32,
+    ) -> Result<(), NoMemory>
+        ensures { (script : Script) (budget : ℕ) (shape : Shape) →
+            AreOf script budget shape self.old → IsOf script budget shape before.entry →
+            IsOf script budget shape run.old →
+            AreOf script budget shape self.new × IsOf script budget shape run.new }
     {
-        if !run.machine.will_attempt() {
-            run.step()?;
-            return Ok(run);
+        if run.machine.attempts() == before.machine.attempts() || run.top > length {
+            return self.refuse_instead(run, before);
         }
+        if run.top > before.top {
+            self.push(before, length)
+        } else {
+            self.give_up(before)
+        }
+    }
+
+    /// Makes the attempt that a run is right before, in a heap of this length, in bytes.
+    fn make_attempt(&mut self, run: &mut SetRun<'a>, length: u32) -> Result<(), NoMemory>
+        ensures { GoesOn self.old run.old self.new run.new }
+    {
         let spare = self.take_heap();
         let before = run.copy_over(spare)?;
         run.step()?;
-        self.judge(before, run, length)
+        self.judge(run, before, length)
     }
 
-    /// Takes a run that is right before an attempt to its end, in a heap of this length, in bytes, that refuses this attempt. `None` if the
-    /// run is given up, since it takes too long.
-    fn go_to_end(
-        &mut self,
-        mut run: SetRun<'a>,
-        length: u32,
-    ) -> Result<Option<SetRun<'a>>, NoMemory>
-        ensures { IfOk result (GoesOnOrNot self.old run.entry self.new) }
+    /// Takes a run that is right before an attempt on, in a heap of this length, in bytes, that refuses this attempt. Returns whether the
+    /// run can be finished: it is over, or has made as many attempts as any run before. Otherwise it takes too long.
+    fn go_to_end(&mut self, run: &mut SetRun<'a>, length: u32) -> Result<bool, NoMemory>
+        ensures { GoesOn self.old run.old self.new run.new }
     {
         run.refuse()?;
-        let last = run.machine.attempts().saturating_add(MOST_ATTEMPTS);
-        for _turn in 0..MOST_STEPS + 2 {
-            if run.is_over {
-                return Ok(Some(run));
+        for _attempt in 0..MOST_ATTEMPTS + 1 {
+            if run.machine.attempts() >= self.most_attempts {
+                return Ok(true);
             }
-            if run.machine.attempts() > last {
-                return Ok(None);
+            if !run.go_to_attempt()? {
+                return Ok(run.is_over);
             }
-            run = self.take_turn(run, length)?;
+            self.make_attempt(run, length)?;
         }
-        Ok(None)
+        Ok(false)
     }
 
-    /// Takes the next turn of a run in a heap of this length, in bytes. Until the run has made `first` attempts, no copy is made, so the
-    /// run's set must have all attempts before that which the heap refuses.
-    fn approach(
-        &mut self,
-        mut run: SetRun<'a>,
-        first: u32,
-        length: u32,
-    ) -> Result<SetRun<'a>, NoMemory>
-        ensures { IfOk result (GoesOn self.old run.entry self.new) }
+    /// Makes the attempt that a run is right before, in a heap of this length, in bytes. Until the run has made `first` attempts, no copy is
+    /// made, so the run's set must have all attempts before that which the heap refuses.
+    fn approach(&mut self, run: &mut SetRun<'a>, first: u32, length: u32) -> Result<(), NoMemory>
+        ensures { GoesOn self.old run.old self.new run.new }
     {
         if run.machine.attempts() >= first {
-            return self.take_turn(run, length);
+            return self.make_attempt(run, length);
         }
-        run.step()?;
-        Ok(run)
+        run.step()
     }
 
     /// Takes a run to right before an attempt, in a heap of this length, in bytes. Forks are made only before the last few attempts on the
-    /// way. `None` if the run ends before that, or takes too long.
-    fn go_to(
-        &mut self,
-        mut run: SetRun<'a>,
-        number: u32,
-        length: u32,
-    ) -> Result<Option<SetRun<'a>>, NoMemory>
-        ensures { IfOk result (GoesOnOrNot self.old run.entry self.new) }
+    /// way. Returns `false` if the run ends before that, or takes too long.
+    fn go_to(&mut self, run: &mut SetRun<'a>, number: u32, length: u32) -> Result<bool, NoMemory>
+        ensures { GoesOn self.old run.old self.new run.new }
     {
         let first = number.saturating_sub(MOST_FORKS);
-        for _turn in 0..MOST_STEPS + 2 {
-            if run.machine.next_attempt() == Some(number) {
-                return Ok(Some(run));
+        for _attempt in 0..MOST_STEPS + 2 {
+            if !run.go_to_attempt()? {
+                return Ok(false);
             }
-            if run.is_over {
-                return Ok(None);
+            if run.machine.attempts().saturating_add(1) >= number {
+                return Ok(true);
             }
-            run = self.approach(run, first, length)?;
+            self.approach(run, first, length)?;
         }
-        Ok(None)
+        Ok(false)
     }
 
-    /// Makes the last run again, up to right before an attempt. `None` if that takes too long. The last run granted no cell that ends more
-    /// than one byte past `length`.
-    fn make_again(
+    /// Begins the last run again; `number` is the attempt to which the run is to be taken.
+    fn begin_again(
         &mut self,
         script: &'a Script,
-        budget: u32,
-        shape: Shape,
+        conditions: Conditions,
         number: u32,
-        length: u32,
-    ) -> Result<Option<SetRun<'a>>, RunFault>
+    ) -> Result<SetRun<'a>, NoMemory>
         requires script { IsTrue (is_script script.now) }
-        requires least { 1 ≤ budget }
-        requires greatest { budget ≤ LARGEST_BUDGET }
-        ensures of { IfOk result (GivesRun script.now budget shape self.old self.new) }
-        ensures shape { result ≡ Err RunFault.BadShape → is_shape shape ≡ false }
+        ensures of { IfOk result (IsOf script.now conditions.budget conditions.shape) }
+        ensures forks { self.new.runs.items ≡ self.old.runs.items }
     {
         let numbers = numbers_below(self.alloc, &self.refused, number)?;
         let spare = self.take_heap();
-        let run = SetRun::new(self.alloc, script, numbers, budget, shape, spare)?;
-        let found = self.go_to(run, number, length.saturating_add(1))?;
-        Ok(found)
+        SetRun::new(self.alloc, script, numbers, conditions, spare)
     }
 
-    /// The last run right before an attempt: a fork, or a run that goes on from the last fork before that, or else the run made again. `None`
-    /// if that takes too long. The last run granted no cell that ends more than one byte past `length`.
+    /// The last run before an attempt, or before one of the few attempts before that: a fork, or else the run begun again.
     fn fork_at(
         &mut self,
         script: &'a Script,
-        budget: u32,
-        shape: Shape,
+        conditions: Conditions,
         number: u32,
-        length: u32,
-    ) -> Result<Option<SetRun<'a>>, RunFault>
+    ) -> Result<SetRun<'a>, NoMemory>
         requires script { IsTrue (is_script script.now) }
-        requires least { 1 ≤ budget }
-        requires greatest { budget ≤ LARGEST_BUDGET }
-        ensures of { IfOk result (GivesRun script.now budget shape self.old self.new) }
-        ensures shape { result ≡ Err RunFault.BadShape → is_shape shape ≡ false }
+        ensures { IfOk result
+            (GivesRun script.now conditions.budget conditions.shape self.old self.new) }
     {
         self.drop_past(number)?;
         match self.take_last() {
-            Some(run) if run.machine.attempts().saturating_add(MOST_FORKS) >= number => {
-                let found = self.go_to(run, number, length.saturating_add(1))?;
-                Ok(found)
-            }
+            Some(run) if run.machine.attempts().saturating_add(MOST_FORKS) >= number => Ok(run),
             Some(run) => {
                 self.give_up(run)?;
-                self.make_again(script, budget, shape, number, length)
+                self.begin_again(script, conditions, number)
             }
-            None => self.make_again(script, budget, shape, number, length),
+            None => self.begin_again(script, conditions, number),
         }
+    }
+
+    /// Takes a run to an attempt, and from there on in a heap of this length, in bytes, that refuses this attempt. Returns whether the run
+    /// can be finished. The last run granted no cell that ends more than one byte past `length`.
+    fn follow(&mut self, run: &mut SetRun<'a>, number: u32, length: u32) -> Result<bool, NoMemory>
+        ensures { GoesOn self.old run.old self.new run.new }
+    {
+        if !self.go_to(run, number, length.saturating_add(1))? {
+            return Ok(false);
+        }
+        self.go_to_end(run, length)
     }
 
     /// The result of a run, if it shows that it is the run in a heap of this length, in bytes; otherwise `None`. Keeps what the run shows of
@@ -199,6 +181,7 @@ impl<'a> Forks<'a> {
         }
         self.parting = parting_of(&result);
         self.refused = numbers;
+        self.most_attempts = self.most_attempts.max(attempts_of(&result));
         Ok(Some(result))
     }
 
@@ -207,26 +190,21 @@ impl<'a> Forks<'a> {
     fn run_from(
         &mut self,
         script: &'a Script,
-        budget: u32,
-        shape: Shape,
+        conditions: Conditions,
         number: u32,
         length: u32,
-    ) -> Result<Option<RunResult>, RunFault>
+    ) -> Result<Option<RunResult>, NoMemory>
         requires script { IsTrue (is_script script.now) }
-        requires least { 1 ≤ budget }
-        requires greatest { budget ≤ LARGEST_BUDGET }
-        requires forks { AreOf script.now budget shape self.old }
+        requires forks { AreOf script.now conditions.budget conditions.shape self.old }
         ensures tells { IfOk result (λ found.
-            IfSome found (TellsRunIn script.now budget shape length)) }
-        ensures forks { OnOk result (AreOf script.now budget shape self.new) }
-        ensures shape { result ≡ Err RunFault.BadShape → is_shape shape ≡ false }
+            IfSome found (TellsRunIn script.now conditions.budget conditions.shape length)) }
+        ensures forks { OnOk result (AreOf script.now conditions.budget conditions.shape self.new) }
     {
-        let Some(before) = self.fork_at(script, budget, shape, number, length)? else {
+        let mut run = self.fork_at(script, conditions, number)?;
+        if !self.follow(&mut run, number, length)? {
+            self.give_up(run)?;
             return Ok(None);
-        };
-        let Some(run) = self.go_to_end(before, length)? else {
-            return Ok(None);
-        };
+        }
         let found = self.finish(run, length)?;
         Ok(found)
     }
@@ -236,23 +214,19 @@ impl<'a> Forks<'a> {
     pub fn run(
         &mut self,
         script: &'a Script,
-        budget: u32,
-        shape: Shape,
+        conditions: Conditions,
         length: u32,
-    ) -> Result<Option<RunResult>, RunFault>
+    ) -> Result<Option<RunResult>, NoMemory>
         requires script { IsTrue (is_script script.now) }
-        requires least { 1 ≤ budget }
-        requires greatest { budget ≤ LARGEST_BUDGET }
-        requires forks { AreOf script.now budget shape self.old }
+        requires forks { AreOf script.now conditions.budget conditions.shape self.old }
         ensures tells { IfOk result (λ found.
-            IfSome found (TellsRunIn script.now budget shape length)) }
-        ensures forks { OnOk result (AreOf script.now budget shape self.new) }
-        ensures shape { result ≡ Err RunFault.BadShape → is_shape shape ≡ false }
+            IfSome found (TellsRunIn script.now conditions.budget conditions.shape length)) }
+        ensures forks { OnOk result (AreOf script.now conditions.budget conditions.shape self.new) }
     {
         let Some(number) = self.parting.take() else {
             return Ok(None);
         };
-        let found = self.run_from(script, budget, shape, number, length)?;
+        let found = self.run_from(script, conditions, number, length)?;
         if found.is_none() {
             self.whole_runs = 0;
         }

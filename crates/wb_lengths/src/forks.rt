@@ -2,7 +2,7 @@
 
 ghost use Rattle.std.specs.Prelude.{◌≡◌, IfSome};
 
-use crate::parting::{parting_of, refused_in};
+use crate::parting::{attempts_of, parting_of, refused_in};
 use crate::set_run::SetRun;
 use std::alloc::{AllocError, Global};
 use std::collections::VecDeque;
@@ -36,6 +36,8 @@ pub(crate) struct Forks<'a> {
     pub parting: Option<u32>,
     /// The attempts that the heap of the last run refused.
     pub refused: Numbers,
+    /// The most attempts that a run has made so far.
+    pub most_attempts: u32,
 }
 
 /// This implementation is written out rather than derived. So a proof elsewhere that drops a `Forks` sees one call, and only the proof of
@@ -49,6 +51,7 @@ impl Drop for Forks<'_> {
             whole_runs: _,
             parting: _,
             refused: _,
+            most_attempts: _,
         } = self;
     }
 }
@@ -76,6 +79,7 @@ impl<'a> Forks<'a> {
             whole_runs: 0,
             parting: None,
             refused: Numbers::new(alloc),
+            most_attempts: 0,
         }
     }
 
@@ -230,6 +234,7 @@ impl<'a> Forks<'a> {
     {
         self.drop_past(0)?;
         self.whole_runs = self.whole_runs.saturating_add(1);
+        self.most_attempts = self.most_attempts.max(attempts_of(run_result));
         if self.whole_runs < WHOLE_RUNS {
             return Ok(());
         }

@@ -1,24 +1,21 @@
 //! Runs of a script in heaps of one length after another, each shorter than the one before it.
 
-ghost use Rattle.std.specs.Prelude.{◌≡◌, ◌≢◌, ◌↔◌, ℕ, ◌<◌, ◌≤◌, None, false, true, IfOk, IfSome, IsTrue, OnOk};
-ghost use Rattle.wb_heap_model.specs.Space.{is_shape};
+ghost use Rattle.std.specs.Prelude.{◌≡◌, ◌≢◌, ℕ, ◌<◌, ◌≤◌, None, false, true, IfOk, IfSome, IsTrue, OnOk};
 ghost use Rattle.wb_tree.specs.Sound.{is_script};
 ghost use Rattle.wb_runs.specs.Lengths.{run_in};
-ghost use Rattle.wb_machine.specs.declared.fault.RunFault.TheVariants.{BadShape};
 ghost use Rattle.wb_machine.specs.Seen.{whole_run_of};
 ghost use Rattle.wb_lengths.specs.Forks.{AreOf, KeepsForks};
 ghost use Rattle.wb_lengths.specs.SetHeaps.{TellsRunIn};
 ghost use Rattle.wb_lengths.specs.Walk.{steps_after};
-ghost use Rattle.wb_basics.specs.declared.limits.TheConstants.{CEILING};
 ghost use Rattle.wb_heap_model.specs.declared.heap.Shape.{Shape};
 ghost use Rattle.wb_tree.specs.declared.script.Script.{Script};
 
 use crate::forks::Forks;
 use std::alloc::Global;
-use wb_basics::limits::{CEILING, LARGEST_BUDGET};
 use wb_basics::memory::NoMemory;
 use wb_heap_model::heap::{Rule, Shape};
-use wb_machine::{Finished, Machine, RunFault, Turn};
+use wb_machine::{Finished, Machine, Turn};
+use wb_meaning::conditions::Conditions;
 use wb_meaning::progress::StepProgress;
 use wb_meaning::run::RunResult;
 use wb_tree::script::Script;
@@ -53,31 +50,24 @@ impl<'a> HeapRuns<'a> {
     pub(crate) fn run<P: StepProgress>(
         &mut self,
         script: &'a Script,
-        budget: u32,
-        shape: Shape,
+        conditions: Conditions,
         length: u32,
         progress: &mut P,
-    ) -> Result<Option<RunResult>, RunFault>
+    ) -> Result<Option<RunResult>, NoMemory>
         requires script { IsTrue (is_script script.now) }
-        requires least { 1 ≤ budget }
-        requires greatest { budget ≤ LARGEST_BUDGET }
-        requires forks { AreOf script.now budget shape self.old.forks }
-        requires shaped { is_shape shape ≡ false → CEILING ≤ length }
+        requires forks { AreOf script.now conditions.budget conditions.shape self.old.forks }
         ensures tells { IfOk result (λ found.
-            IfSome found (TellsRunIn script.now budget shape length)) }
+            IfSome found (TellsRunIn script.now conditions.budget conditions.shape length)) }
         ensures counted { IfOk result (λ found. IfSome found (λ r.
             self.new.steps_left ≡ steps_after r.steps self.old.steps_left)) }
-        ensures forks { OnOk result (AreOf script.now budget shape self.new.forks) }
+        ensures forks { OnOk result (AreOf script.now conditions.budget conditions.shape
+            self.new.forks) }
         ensures unbounded { self.old.steps_left ≡ None → self.new.steps_left ≡ None }
         ensures whole { self.old.steps_left ≡ None → IfOk result (λ found. found ≢ None) }
-        ensures shape { (result ≡ Err RunFault.BadShape) ↔ (is_shape shape ≡ false) }
     {
-        if length >= CEILING {
-            return self.run_whole(script, budget, shape, length, progress);
-        }
-        match self.forks.run(script, budget, shape, length)? {
+        match self.forks.run(script, conditions, length)? {
             Some(run_result) => Ok(self.count(run_result)),
-            None => self.run_whole(script, budget, shape, length, progress),
+            None => self.run_whole(script, conditions, length, progress),
         }
     }
 
@@ -85,24 +75,20 @@ impl<'a> HeapRuns<'a> {
     fn run_whole<P: StepProgress>(
         &mut self,
         script: &'a Script,
-        budget: u32,
-        shape: Shape,
+        conditions: Conditions,
         length: u32,
         progress: &mut P,
-    ) -> Result<Option<RunResult>, RunFault>
+    ) -> Result<Option<RunResult>, NoMemory>
         requires script { IsTrue (is_script script.now) }
-        requires least { 1 ≤ budget }
-        requires greatest { budget ≤ LARGEST_BUDGET }
         ensures ran { IfOk result (λ found. IfSome found (λ r.
-            r ≡ run_in script.now budget shape length)) }
+            r ≡ run_in script.now conditions.budget conditions.shape length)) }
         ensures counted { IfOk result (λ found. IfSome found (λ r.
             self.new.steps_left ≡ steps_after r.steps self.old.steps_left)) }
         ensures forks { OnOk result (KeepsForks self.old.forks self.new.forks) }
         ensures unbounded { self.old.steps_left ≡ None → self.new.steps_left ≡ None }
         ensures whole { self.old.steps_left ≡ None → IfOk result (λ found. found ≢ None) }
-        ensures shape { (result ≡ Err RunFault.BadShape) ↔ (is_shape shape ≡ false) }
     {
-        let start = Machine::new(self.alloc, script, Rule::Limit(length), budget, shape)?;
+        let start = Machine::start(self.alloc, script, Rule::Limit(length), conditions)?;
         let spare = self.forks.take_heap();
         let machine = start.try_copy_over(spare)?;
         match finish_within(machine, self.steps_left, progress)? {

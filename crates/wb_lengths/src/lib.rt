@@ -12,8 +12,9 @@ mod set_run;
 mod table_so_far;
 
 pub use all_lengths::{BadLength, LengthFindings, first_bad, lengths, lengths_within};
+pub use wb_basics::memory::NoMemory;
 pub use wb_heap_model::heap::Shape;
-pub use wb_machine::RunFault;
+pub use wb_meaning::conditions::Conditions;
 pub use wb_meaning::run::RunResult;
 pub use wb_runs::lengths::{LengthRange, LengthTable};
 pub use wb_runs::progress::{Progress, Silent};

@@ -54,6 +54,14 @@ pub(crate) fn parting_of(run_result: &RunResult) -> Option<u32> {
     Some(number)
 }
 
+/// How many attempts a run made.
+pub(crate) fn attempts_of(run_result: &RunResult) -> u32 {
+    match run_result.trace.as_slice().last() {
+        Some(attempt) => attempt.number,
+        None => 0,
+    }
+}
+
 /// The numbers of the attempts that the heap of a run refuses.
 pub(crate) fn refused_in(alloc: Global, run_result: &RunResult) -> Result<Numbers, NoMemory> {
     let mut numbers = Numbers::new(alloc);

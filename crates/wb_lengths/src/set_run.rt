@@ -1,17 +1,16 @@
 //! A run in which the attempts of a set fail.
 
-ghost use Rattle.std.specs.Prelude.{◌≡◌, ◌≤◌, [], ◌∷◌, ◌++◌, false, IfOk, IsTrue};
-ghost use Rattle.wb_heap_model.specs.Space.{is_shape};
+ghost use Rattle.std.specs.Prelude.{◌≡◌, [], ◌∷◌, ◌++◌, false, IfOk, IsTrue};
 ghost use Rattle.wb_heap_model.specs.declared.heap.Rule.TheVariants as rules;
-ghost use Rattle.wb_machine.specs.declared.fault.RunFault.TheVariants.{BadShape};
 ghost use Rattle.wb_runs.specs.Sets.{set_run};
 ghost use Rattle.wb_tree.specs.Sound.{is_script};
 
+use crate::parting::MOST_STEPS;
 use std::alloc::Global;
-use wb_basics::limits::LARGEST_BUDGET;
 use wb_basics::memory::NoMemory;
-use wb_heap_model::heap::{Answer, Attempt, Numbers, Rule, Shape};
-use wb_machine::{Finished, Heap, Machine, RunFault, Turn};
+use wb_heap_model::heap::{Answer, Attempt, Numbers, Rule};
+use wb_machine::{Finished, Heap, Machine, Turn};
+use wb_meaning::conditions::Conditions;
 use wb_tree::script::Script;
 
 /// A run under way in which the attempts of a set fail.
@@ -70,24 +69,19 @@ fn set_with(numbers: &Numbers, number: u32) -> Result<Numbers, NoMemory>
 impl<'a> SetRun<'a> {
     ghost use Rattle.wb_lengths.specs.Forks.{IsOf, IsOfSame};
 
-    /// The run before its first attempt. Its heap takes the memory of `spare`, if there is any. Returns `BadShape` only if no heap may have
-    /// this shape.
+    /// The run before its first attempt. Its heap takes the memory of `spare`, if there is any.
     pub fn new(
         alloc: Global,
         script: &'a Script,
         numbers: Numbers,
-        budget: u32,
-        shape: Shape,
+        conditions: Conditions,
         spare: Option<Heap>,
-    ) -> Result<SetRun<'a>, RunFault>
+    ) -> Result<SetRun<'a>, NoMemory>
         requires script { IsTrue (is_script script.now) }
-        requires least { 1 ≤ budget }
-        requires greatest { budget ≤ LARGEST_BUDGET }
-        ensures of { IfOk result (IsOf script.now budget shape) }
-        ensures shape { result ≡ Err RunFault.BadShape → is_shape shape ≡ false }
+        ensures { IfOk result (IsOf script.now conditions.budget conditions.shape) }
     {
         let rule = rule_for(&numbers)?;
-        let start = Machine::new(alloc, script, rule, budget, shape)?;
+        let start = Machine::start(alloc, script, rule, conditions)?;
         let machine = start.try_copy_over(spare)?;
         Ok(SetRun {
             machine,
@@ -120,6 +114,22 @@ impl<'a> SetRun<'a> {
         self.is_over = turn == Turn::Ended;
         self.top = self.top.max(end_of(self.machine.last_attempt()));
         Ok(())
+    }
+
+    /// Takes turns until the next turn makes an attempt. Returns `false` if the run is over before that, or takes too long.
+    pub fn go_to_attempt(&mut self) -> Result<bool, NoMemory>
+        ensures { IsOfSame self.old self.new }
+    {
+        for _turn in 0..MOST_STEPS + 2 {
+            if self.machine.will_attempt() {
+                return Ok(true);
+            }
+            if self.is_over {
+                return Ok(false);
+            }
+            self.step()?;
+        }
+        Ok(false)
     }
 
     /// Makes the next attempt one of those that fail, and takes the turn that makes it. Does nothing if the next turn makes no attempt.

@@ -1,8 +1,9 @@
 //! The form of a line: the first line kind whose text and operand places fit the words of the line, and the operands of the line.
 
-ghost use Rattle.std.specs.Prelude.{◌≡◌, ◌<◌, ℕ, [], ◌∷◌, ◌++◌, length, slice_get, IfOk, IfErr, OnOk};
+ghost use Rattle.std.specs.Prelude.{◌≡◌, ◌<◌, ℕ, [], ◌∷◌, ◌++◌, length, slice_get, IfOk, IfErr, IsTrue, OnOk};
 ghost use Rattle.std.specs.Option.{option_and_then, option_map};
 ghost use Rattle.std.specs.Str.{bytes_eq};
+ghost use Rattle.wb_tree.specs.declared.script_lines.Form.TheVariants.{Skip};
 ghost use Rattle.wb_tree.specs.declared.script_lines.Operand.TheVariants.{Name, Number, Literal};
 ghost use Rattle.wb_language.specs.Forms.{renamed_parameter_type, size_of, field_of, parameter_of, operand_as};
 ghost use Rattle.wb_language.specs.Forms.{operand_among, operand_of, operands_of, operands_if, form_in, form_of};
@@ -16,7 +17,7 @@ use crate::line_kinds::{line_kinds_with_first, role_of, text_of};
 use crate::lists::add;
 use crate::operand_places::{OperandPlaces, word_kinds};
 use crate::same::are_same;
-use crate::segments::add_words;
+use crate::segments::{add_words, after_blanks};
 use crate::words::{
     base_name, declared_name, field_name, is_keyword, literal_of, number_of, parameter_name,
     parameter_type_of_word, used_name,
@@ -271,8 +272,15 @@ pub fn form_of<'a>(alloc: Global, words: &[&'a [u8]]) -> Result<Form<&'a [u8]>, 
     }
 }
 
+/// Whether a line is empty or a comment. The line begins with its first byte that is no blank.
+fn is_skipped(line: &[u8]) -> bool
+    ensures { IsTrue result → line_form line.now ≡ Skip }
+{
+    matches!(line, [] | [b'#', ..])
+}
+
 /// The form of a line, which is given without its line feed. `words` is a buffer that is used for one line after another: the function
-/// clears it, and then fills it with the words of this line.
+/// clears it, and then fills it with the words of this line. An empty line or a comment isn't cut into words.
 fn line_form<'a>(
     alloc: Global,
     words: &mut Vec<&'a [u8]>,
@@ -280,8 +288,12 @@ fn line_form<'a>(
 ) -> Result<Form<&'a [u8]>, AllocError>
     ensures { IfOk result (λ form. bytes_of_form form ≡ line_form line.now) }
 {
+    let content = after_blanks(line);
+    if is_skipped(content) {
+        return Ok(Form::Skip);
+    }
     words.clear();
-    add_words(words, line)?;
+    add_words(words, content)?;
     form_of(alloc, words)
 }
 

@@ -90,6 +90,18 @@ pub fn lines<'a>(alloc: Global, bytes: &'a [u8]) -> Result<Vec<&'a [u8]>, AllocE
     pieces(alloc, Cut::Lines, bytes)
 }
 
+/// A line from its first byte that is no blank.
+pub fn after_blanks<'a>(line: &'a [u8]) -> &'a [u8]
+    ensures { words_of result.now ≡ words_of line.now }
+{
+    for (index, byte) in line.iter().enumerate() {
+        if !is_blank(*byte) {
+            return &line[index..];
+        }
+    }
+    &line[line.len()..]
+}
+
 /// Appends the words of a line. A blank between quotes ends no word.
 pub fn add_words<'a>(words: &mut Vec<&'a [u8]>, line: &'a [u8]) -> Result<(), AllocError>
     ensures { OnOk result (bytes_of_texts words.new.items

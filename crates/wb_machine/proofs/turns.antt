@@ -1,4 +1,5 @@
 -- What is left after a turn is what was left before it.
+pub mod CarriedOut
 pub mod Copies
 pub mod Destructions
 pub mod FirstTurn

@@ -8,7 +8,6 @@ pub mod CleanupEffects
 pub mod Depths
 pub mod ObjectEffects
 pub mod TextEffects
-pub mod Fault
 pub mod Flow
 pub mod InPlace
 pub mod RunState

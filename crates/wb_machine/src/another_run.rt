@@ -3,11 +3,11 @@
 ghost use Rattle.std.specs.Prelude.{◌≡◌, false, IfOk};
 ghost use Rattle.wb_meaning.specs.Run.{run};
 
-use crate::fault::RunFault;
-use crate::machine::{Machine, run};
-use std::alloc::AllocError;
+use crate::machine::{Machine, run_reporting};
 use wb_basics::memory::NoMemory;
 use wb_heap_model::heap::Rule;
+use wb_meaning::conditions::Conditions;
+use wb_meaning::progress::Silent;
 use wb_meaning::run::RunResult;
 
 impl<'a> Machine<'a> {
@@ -18,10 +18,10 @@ impl<'a> Machine<'a> {
         ensures { IfOk result (λ run_result. run_result
             ≡ run self.now.script rule self.now.budget self.now.shape) }
     {
-        match run(self.alloc, self.script, rule, self.budget, self.shape) {
-            Ok(run_result) => Ok(run_result),
-            Err(RunFault::NoMemory) => Err(NoMemory::from(AllocError)),
-            Err(RunFault::BadShape) => unreachable!(),
-        }
+        let conditions = Conditions {
+            budget: self.budget,
+            shape: self.shape,
+        };
+        run_reporting(self.alloc, self.script, rule, conditions, &mut Silent)
     }
 }

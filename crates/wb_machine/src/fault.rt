@@ -1,7 +1,6 @@
 //! Why a run gives no result.
 
 use wb_basics::memory::NoMemory;
-use wb_debug::fault::DebugFault;
 
 /// Why a run gives no result.
 #[derive(Clone, Copy, Debug, PartialEq, Eq)]
@@ -20,19 +19,5 @@ impl From<NoMemory> for RunFault {
 
     fn from(_error: NoMemory) -> RunFault {
         RunFault::NoMemory
-    }
-}
-
-impl From<DebugFault> for RunFault {
-    ghost use Rattle.std.specs.Prelude.{◌≡◌};
-    ghost use Rattle.wb_machine.specs.Fault.{fault_of};
-
-    ghost from_gives = { λ fault given. given ≡ fault_of fault };
-
-    fn from(fault: DebugFault) -> RunFault {
-        match fault {
-            DebugFault::BadShape => RunFault::BadShape,
-            DebugFault::NoMemory => RunFault::NoMemory,
-        }
     }
 }

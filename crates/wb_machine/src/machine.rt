@@ -1,15 +1,13 @@
 //! The machine that callers see, and whole runs. What a machine turn does is in the file `control`, and what remains of a run is in the
 //! file `finished`.
 
-ghost use Rattle.std.specs.Prelude.{◌≡◌, ◌+◌, ◌≤◌, ◌↔◌, true, false, length, is_err, IsTrue};
+ghost use Rattle.std.specs.Prelude.{◌≡◌, ◌+◌, ◌≤◌, true, false, length, is_err, IsTrue};
 ghost use Rattle.std.specs.Prelude.{IfOk, IsOk, OnOk, OnErr};
 ghost use Rattle.wb_tree.specs.Sound.{is_script};
 ghost use Rattle.wb_heap_model.specs.SameRules.{SameSoFar};
-ghost use Rattle.wb_heap_model.specs.Space.{is_shape};
 ghost use Rattle.wb_heap_model.specs.Debug.{keeps_rises};
 ghost use Rattle.wb_meaning.specs.Run.{rises_result_of, run};
 ghost use Rattle.wb_heap_model.specs.declared.heap.Rule.TheVariants.{Unlimited};
-ghost use Rattle.wb_machine.specs.declared.fault.RunFault.TheVariants.{BadShape};
 ghost use Rattle.wb_machine.specs.Flow.{is_stop};
 ghost use Rattle.wb_machine.specs.RunState.{first_state};
 ghost use Rattle.wb_machine.specs.Seen.{seen_at_start};
@@ -17,18 +15,17 @@ ghost use Rattle.wb_machine.specs.Results.{leaks_at_end};
 ghost use Rattle.wb_machine.specs.Turns.{IsSameRun, MakesMore, TurnLeaves};
 
 use crate::control::Control;
-use crate::fault::RunFault;
 use crate::pieces::Ending;
 use crate::state::State;
 use std::alloc::Global;
 use std::marker::Model;
 use wb_basics::items::Items;
-use wb_basics::limits::LARGEST_BUDGET;
 use wb_basics::memory::NoMemory;
 use wb_debug::Heap;
 use wb_heap_model::heap::{Rule, Shape};
 use wb_heap_model::reported::Leaks;
-use wb_meaning::progress::{Silent, StepProgress};
+use wb_meaning::conditions::Conditions;
+use wb_meaning::progress::StepProgress;
 use wb_meaning::run::{RisesResult, RunResult};
 use wb_tree::script::Script;
 
@@ -73,45 +70,33 @@ impl<'a> Model for Machine<'a> {
 
 impl<'a> Machine<'a> {
     /// A machine at the start of a run, before the run's first attempt. The machine keeps a trace: a line for each attempt.
-    ///
-    /// The budget is in steps, the shape's lengths are in bytes. Returns `BadShape` exactly if no heap may have the shape; in that case,
-    /// never returns `NoMemory`.
-    pub fn new(
+    pub fn start(
         alloc: Global,
         script: &'a Script,
         rule: Rule,
-        budget: u32,
-        shape: Shape,
-    ) -> Result<Machine<'a>, RunFault>
-        requires script { IsTrue (is_script script.now) }
-        requires least { 1 ≤ budget }
-        requires greatest { budget ≤ LARGEST_BUDGET }
-        ensures shape { (result ≡ Err RunFault.BadShape) ↔ (is_shape shape ≡ false) }
-        ensures seen { IfOk result (λ m. m ≡ seen_at_start false script.now rule budget shape) }
+        conditions: Conditions,
+    ) -> Result<Machine<'a>, NoMemory>
+        requires { IsTrue (is_script script.now) }
+        ensures { IfOk result (λ m.
+            m ≡ seen_at_start false script.now rule conditions.budget conditions.shape) }
     {
-        let state = State::new(alloc, rule, shape)?;
-        Ok(at_start(alloc, script, budget, shape, state))
+        let state = State::new(alloc, rule, conditions.shape)?;
+        Ok(at_start(alloc, script, conditions, state))
     }
 
     /// A machine at the start of a run without a limit. The machine keeps no trace. Instead, it keeps the rises: the granted attempts whose
     /// cells end past the ends of all cells that were granted earlier.
-    ///
-    /// The budget is in steps, the shape's lengths are in bytes. Returns `BadShape` exactly if no heap may have the shape; in that case,
-    /// never returns `NoMemory`.
-    pub fn new_rises(
+    pub fn start_rises(
         alloc: Global,
         script: &'a Script,
-        budget: u32,
-        shape: Shape,
-    ) -> Result<Machine<'a>, RunFault>
-        requires script { IsTrue (is_script script.now) }
-        requires least { 1 ≤ budget }
-        requires greatest { budget ≤ LARGEST_BUDGET }
-        ensures shape { (result ≡ Err RunFault.BadShape) ↔ (is_shape shape ≡ false) }
-        ensures seen { IfOk result (λ m. m ≡ seen_at_start true script.now Unlimited budget shape) }
+        conditions: Conditions,
+    ) -> Result<Machine<'a>, NoMemory>
+        requires { IsTrue (is_script script.now) }
+        ensures { IfOk result (λ m.
+            m ≡ seen_at_start true script.now Unlimited conditions.budget conditions.shape) }
     {
-        let state = State::new_rises(alloc, shape)?;
-        Ok(at_start(alloc, script, budget, shape, state))
+        let state = State::new_rises(alloc, conditions.shape)?;
+        Ok(at_start(alloc, script, conditions, state))
     }
 
     /// Takes the next turn.
@@ -273,25 +258,21 @@ impl<'a> Machine<'a> {
 fn at_start<'a>(
     alloc: Global,
     script: &'a Script,
-    budget: u32,
-    shape: Shape,
+    conditions: Conditions,
     state: State,
 ) -> Machine<'a>
     requires script { IsTrue (is_script script.now) }
-    requires greatest { budget ≤ LARGEST_BUDGET }
-    requires least { 1 ≤ budget }
-    requires shaped { IsTrue (is_shape shape) }
-    requires shape { shape ≡ state.debug.shape }
+    requires shape { conditions.shape ≡ state.debug.shape }
     requires start { state
         ≡ first_state (keeps_rises state.debug) state.debug.rule state.debug.shape }
-    ensures { result ≡ seen_at_start (keeps_rises state.debug) script.now state.debug.rule budget
-        state.debug.shape }
+    ensures { result ≡ seen_at_start (keeps_rises state.debug) script.now state.debug.rule
+        conditions.budget state.debug.shape }
 {
     Machine {
         alloc,
         script,
-        budget,
-        shape,
+        budget: conditions.budget,
+        shape: conditions.shape,
         begun: false,
         control: Control::new(alloc),
         state,
@@ -312,45 +293,23 @@ fn list_leaks(leaks: &mut Leaks, ending: Ending, state: &State) -> Result<(), No
     Ok(())
 }
 
-/// Runs a script from the first attempt to the end of the run, or until the run is cut.
+/// Runs a script from the first attempt to the end of the run, or until the run is cut. `progress` is notified of the steps taken.
 ///
-/// An `Ok` is exactly what the definitions say of the script, the rule, the budget (in steps) and the shape (in bytes). A run that is cut
-/// gives an `Ok` too. The result's trace has at most one line more than the budget has steps. Returns `BadShape` exactly if no heap may
-/// have the shape; in that case, never returns `NoMemory`.
-pub fn run(
-    alloc: Global,
-    script: &Script,
-    rule: Rule,
-    budget: u32,
-    shape: Shape,
-) -> Result<RunResult, RunFault>
-    requires script { IsTrue (is_script script.now) }
-    requires least { 1 ≤ budget }
-    requires greatest { budget ≤ LARGEST_BUDGET }
-    ensures ran { IfOk result (λ run_result. run_result ≡ run script.now rule budget shape) }
-    ensures few { IfOk result (λ run_result. length run_result.trace ≤ budget + 1) }
-    ensures shape { (result ≡ Err RunFault.BadShape) ↔ (is_shape shape ≡ false) }
-{
-    run_reporting(alloc, script, rule, budget, shape, &mut Silent)
-}
-
-/// Runs a script as `run` does. `progress` is notified of the steps taken.
+/// An `Ok` is exactly what the definitions say of the script, the rule and the conditions. A run that is cut gives an `Ok` too. The result's
+/// trace has at most one line more than the budget has steps.
 pub fn run_reporting<P: StepProgress>(
     alloc: Global,
     script: &Script,
     rule: Rule,
-    budget: u32,
-    shape: Shape,
+    conditions: Conditions,
     progress: &mut P,
-) -> Result<RunResult, RunFault>
-    requires script { IsTrue (is_script script.now) }
-    requires least { 1 ≤ budget }
-    requires greatest { budget ≤ LARGEST_BUDGET }
-    ensures ran { IfOk result (λ run_result. run_result ≡ run script.now rule budget shape) }
-    ensures few { IfOk result (λ run_result. length run_result.trace ≤ budget + 1) }
-    ensures shape { (result ≡ Err RunFault.BadShape) ↔ (is_shape shape ≡ false) }
+) -> Result<RunResult, NoMemory>
+    requires { IsTrue (is_script script.now) }
+    ensures ran { IfOk result (λ run_result.
+        run_result ≡ run script.now rule conditions.budget conditions.shape) }
+    ensures few { IfOk result (λ run_result. length run_result.trace ≤ conditions.budget + 1) }
 {
-    let mut machine = Machine::new(alloc, script, rule, budget, shape)?;
+    let mut machine = Machine::start(alloc, script, rule, conditions)?;
     machine.take_all_turns(progress)?;
     Ok(machine.result())
 }
@@ -359,25 +318,20 @@ pub fn run_reporting<P: StepProgress>(
 /// is a granted attempt whose cell ends past the ends of all cells that were granted earlier. Other attempts add nothing to what the run
 /// keeps. `progress` is notified of the steps taken.
 ///
-/// An `Ok` is exactly what the definitions say of the script, the budget (in steps) and the shape (in bytes). A run that is cut gives an
-/// `Ok` too. Returns `BadShape` exactly if no heap may have the shape; in that case, never returns `NoMemory`.
+/// An `Ok` is exactly what the definitions say of the script and the conditions. A run that is cut gives an `Ok` too.
 pub fn run_rises<P: StepProgress>(
     alloc: Global,
     script: &Script,
-    budget: u32,
-    shape: Shape,
+    conditions: Conditions,
     progress: &mut P,
-) -> Result<(RisesResult, u32), RunFault>
-    requires script { IsTrue (is_script script.now) }
-    requires least { 1 ≤ budget }
-    requires greatest { budget ≤ LARGEST_BUDGET }
-    ensures ran { IfOk result (λ counted.
-        counted.0 ≡ rises_result_of (run script.now Unlimited budget shape)) }
-    ensures attempts { IfOk result (λ counted.
-        counted.1 ≡ length (run script.now Unlimited budget shape).trace) }
-    ensures shape { (result ≡ Err RunFault.BadShape) ↔ (is_shape shape ≡ false) }
+) -> Result<(RisesResult, u32), NoMemory>
+    requires { IsTrue (is_script script.now) }
+    ensures ran { IfOk result (λ counted. counted.0
+        ≡ rises_result_of (run script.now Unlimited conditions.budget conditions.shape)) }
+    ensures attempts { IfOk result (λ counted. counted.1
+        ≡ length (run script.now Unlimited conditions.budget conditions.shape).trace) }
 {
-    let mut machine = Machine::new_rises(alloc, script, budget, shape)?;
+    let mut machine = Machine::start_rises(alloc, script, conditions)?;
     machine.take_all_turns(progress)?;
     let attempts = machine.attempts();
     Ok((machine.rises_result(), attempts))

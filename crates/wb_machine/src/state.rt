@@ -1,7 +1,7 @@
 //! The state that all bodies of a running script share. The effects of statements on the state are in other files, by subject. The file
 //! `control` holds what a run still has to do.
 
-ghost use Rattle.std.specs.Prelude.{◌≡◌, ◌+◌, ◌^◌, ◌<◌, ◌↔◌, [], length, false, true, IfOk, OnOk, IsSome, IsTrue, Some};
+ghost use Rattle.std.specs.Prelude.{◌≡◌, ◌+◌, ◌^◌, ◌<◌, [], length, false, true, IfOk, OnOk, IsSome, IsTrue, Some};
 ghost use Rattle.std.specs.List.{list_all};
 ghost use Rattle.wb_heap_model.specs.Debug.{first_debug_of, keeps_rises};
 ghost use Rattle.wb_heap_model.specs.SameRules.{SameSoFar};
@@ -29,7 +29,6 @@ use wb_basics::printed_line::copy_of_lines;
 use wb_cleanup::Cleanup;
 use wb_debug::Heap;
 use wb_debug::debug_heap::DebugHeap;
-use wb_debug::fault::DebugFault;
 use wb_heap_model::heap::{Ptr, Rule, Shape};
 use wb_heap_model::reported::{Leaks, Notes};
 use wb_meaning::run::{Lines, Outcome, RisesResult, RunResult};
@@ -80,20 +79,20 @@ impl Model for State {
 
 impl State {
     /// The state of a run before its first attempt. The run keeps a trace, which has a line for each attempt.
-    pub fn new(alloc: Global, rule: Rule, shape: Shape) -> Result<State, DebugFault>
-        ensures ok { IfOk result (λ state. state ≡ first_state false rule shape) }
-        ensures shape { (result ≡ Err DebugFault.BadShape) ↔ (is_shape shape ≡ false) }
+    pub fn new(alloc: Global, rule: Rule, shape: Shape) -> Result<State, NoMemory>
+        requires { IsTrue (is_shape shape) }
+        ensures { IfOk result (λ state. state ≡ first_state false rule shape) }
     {
-        Ok(over_heap(alloc, DebugHeap::new(alloc, rule, shape)?))
+        Ok(over_heap(alloc, DebugHeap::of_shape(alloc, rule, shape)?))
     }
 
     /// The state, before the first attempt, of a run without a limit. Instead of a trace, the run keeps its rises: the granted attempts
     /// whose cells end past the ends of all cells that were granted earlier.
-    pub fn new_rises(alloc: Global, shape: Shape) -> Result<State, DebugFault>
-        ensures ok { IfOk result (λ state. state ≡ first_state true Unlimited shape) }
-        ensures shape { (result ≡ Err DebugFault.BadShape) ↔ (is_shape shape ≡ false) }
+    pub fn new_rises(alloc: Global, shape: Shape) -> Result<State, NoMemory>
+        requires { IsTrue (is_shape shape) }
+        ensures { IfOk result (λ state. state ≡ first_state true Unlimited shape) }
     {
-        Ok(over_heap(alloc, DebugHeap::new_rises(alloc, shape)?))
+        Ok(over_heap(alloc, DebugHeap::rises_of_shape(alloc, shape)?))
     }
 
     /// Copies the state: changing the state or its copy doesn't change the other. If `spare` is given, the copy's heap takes the memory of

@@ -1,5 +1,5 @@
 -- Which run a report shows, as the command and what was found say it.
-use Rattle.std.specs.Prelude.{◌≡◌, ℕ, ◌≤◌, List, Option, Some, None, option_map, option_and_then, IfSome}
+use Rattle.std.specs.Prelude.{◌≡◌, ◌≤◌, Option, Some, option_map, option_and_then, IfSome}
 use Rattle.wb_command_line.specs.declared.command.Command.{Command}
 use Rattle.wb_command_line.specs.declared.command.Task.{Task}
 use Rattle.wb_command_line.specs.declared.command.Task.TheVariants.{Run, Size, Lengths, Sweep, Check}
@@ -7,22 +7,16 @@ use Rattle.wb_history.specs.declared.parameters.RunParameters.{RunParameters}
 use Rattle.wb_history.specs.declared.runs.WatchedRun.{WatchedRun}
 use Rattle.wb_watch.specs.Watched.{IsWatchedRun}
 use Rattle.wb_lengths.specs.Lengths.{first_bad}
-use Rattle.wb_runs.specs.declared.failures.Failing.{Failing}
 use Rattle.wb_heap_model.specs.declared.heap.Rule.{Rule}
-use Rattle.wb_heap_model.specs.declared.heap.Rule.TheVariants.{Limit, Set}
+use Rattle.wb_heap_model.specs.declared.heap.Rule.TheVariants.{Limit}
 use Rattle.wb_tree.specs.declared.script.Script.{Script}
 use Rattle.wb_basics.specs.declared.limits.TheConstants.{LARGEST_BUDGET}
 use Rattle.wb_runs.specs.Sweeps.{rule_for}
 use Rattle.workbench.specs.declared.findings.Findings.{Findings}
 
--- the rule of a set, if one was found, or else of a failure
-abbrev pub rule_found : Option (List ℕ) → Option Failing → Option Rule
-rule_found (Some numbers) at = Some (Set numbers)
-rule_found None at = option_map rule_for at
-
 -- the rule of the run that a sweep's report shows, if it shows one
 abbrev pub rule_named : Findings → Option Rule
-rule_named findings = rule_found findings.set findings.at
+rule_named findings = option_map rule_for findings.values.named
 
 -- The run under a rule is made with the command's own shape and budget. The budget of each command is in its range.
 pub record IsAsAsked (command : Command) (rule : Rule) (parameters : RunParameters) : Type 0 where
@@ -35,7 +29,7 @@ pub record IsAsAsked (command : Command) (rule : Rule) (parameters : RunParamete
 abbrev pub IsRuleToWatch : Task → Findings → Option Rule → Type 0
 IsRuleToWatch (Run rule) findings watched = IfSome watched (λ (r : Rule). r ≡ rule)
 IsRuleToWatch Size findings watched = watched ≡ rule_named findings
-IsRuleToWatch Lengths findings watched = watched ≡ option_map Limit (option_and_then first_bad findings.ranges)
+IsRuleToWatch Lengths findings watched = watched ≡ option_map Limit (option_and_then first_bad findings.values.ranges)
 IsRuleToWatch (Sweep search part) findings watched = watched ≡ rule_named findings
 IsRuleToWatch (Check search) findings watched = watched ≡ rule_named findings
 

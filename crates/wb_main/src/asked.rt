@@ -65,9 +65,9 @@ pub fn parameters_of(command: &Command, rule: Rule) -> RunParameters
 pub fn rule_named(findings: &Findings) -> Result<Option<Rule>, NoMemory>
     ensures { IfOk result (λ rule. rule ≡ rule_named findings.now) }
 {
-    match &findings.set {
-        Some(numbers) => Ok(Some(Rule::Set(numbers.try_copy()?))),
-        None => Ok(findings.at.map(|it| it.rule())),
+    match &findings.values.named {
+        Some(named) => Ok(Some(named.try_copy()?.rule())),
+        None => Ok(None),
     }
 }
 
@@ -81,7 +81,7 @@ pub fn search_of(task: &Task) -> Option<Search> {
 
 /// Returns what is known of a search that met more states than the command allows; `None` if the report isn't about such a search.
 pub fn many_states(command: &Command, findings: &Findings) -> Option<ManyStates> {
-    let fine = findings.fine?;
+    let fine = findings.values.fine?;
     let most = match search_of(&command.task)? {
         Search::EverySet(states) => states,
         _ => return None,

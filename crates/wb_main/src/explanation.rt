@@ -46,7 +46,7 @@ fn is_found_nothing(answer: Answer<'_>) -> bool {
 /// The length of a heap in which the run does better than in some longer heap. The result is `None` if there is no such length, or if the
 /// report has no table of lengths.
 fn better_length(findings: &Findings) -> Option<u32> {
-    match &findings.ranges {
+    match &findings.values.ranges {
         Some(ranges) => longest_better(ranges.as_slice()),
         None => None,
     }
@@ -82,7 +82,7 @@ pub fn explain_runs(
     let (alloc, command) = (rt.alloc(), answer.command);
     let mut said = explain_all(alloc, answer, script, lines, runs)?;
     if let Some(run) = &runs.found {
-        let found = explain_run(alloc, command, lines, run)?;
+        let found = explain_run(alloc, command, script, lines, run)?;
         said.add(&found)?;
     }
     if let Some(met) = many_states(command, answer.findings) {
@@ -113,7 +113,7 @@ fn explain_all(
         findings,
         ..
     } = answer;
-    if let Some(ranges) = &findings.ranges {
+    if let Some(ranges) = &findings.values.ranges {
         return explain_heaps(alloc, command, ranges.as_slice(), script, lines);
     }
     let numbers = numbers_to_explain(&command.task, findings);
@@ -140,7 +140,7 @@ fn explain_plain(
     history: &History<'_>,
     lines: &ScriptLines<'_>,
 ) -> Result<Explanation, NoMemory> {
-    let mut found = match &answer.findings.rises {
+    let mut found = match &answer.findings.values.rises {
         Some(rises) if !answer.command.brief => lengths_found(
             alloc,
             lines,
@@ -199,7 +199,7 @@ fn numbers_to_explain<'a>(
         Search::All(failures) | Search::Ends(failures) => failures,
         Search::Least(_) | Search::Sets(_) | Search::EverySet(_) => return None,
     };
-    let ends = findings.all.as_ref()?.as_slice();
+    let ends = findings.values.all.as_ref()?.as_slice();
     if has_two_bad(ends) {
         Some((failures, ends))
     } else {

@@ -12,7 +12,7 @@ use wb_basics::memory::NoMemory;
 use wb_explain::runs::{
     Explanation, Question, ShellOptions, nothing_else, unasked_found, undecided_question,
 };
-use wb_heap_model::heap::{Numbers, Rule, Shape};
+use wb_heap_model::heap::{Rule, Shape};
 use wb_history::{Keep, RunParameters, ScriptLines};
 use wb_tree::script::Script;
 use wb_watch::watch_run;
@@ -88,24 +88,14 @@ fn explain_verdict(
         Verdict::Fine | Verdict::Undecided => return Ok(Explanation::new(alloc)),
         Verdict::From(first, _) => (Rule::From(*first), Question::Persistent),
         Verdict::Length(_, length) => (Rule::Limit(*length), Question::Lengths),
-        Verdict::Set(numbers, _) => (rule_of_set(numbers)?, Question::Sets),
+        Verdict::Set(at, _) => (at.try_copy()?.rule(), Question::Sets),
     };
     let parameters = RunParameters {
         shape: options_for(command, question).shape,
         ..parameters_of(command, rule)
     };
     match watch_run(alloc, script, parameters, Keep::Named)? {
-        Some(run) => explain_run(alloc, command, lines, &run),
+        Some(run) => explain_run(alloc, command, script, lines, &run),
         None => Ok(Explanation::new(alloc)),
     }
-}
-
-/// The rule by which exactly the attempts of a set fail. For a set of one attempt it is `Rule::Number`, and for an empty set it is
-/// `Rule::Number` with number 0.
-fn rule_of_set(numbers: &Numbers) -> Result<Rule, NoMemory> {
-    Ok(match numbers.as_slice() {
-        [] => Rule::Number(0),
-        [number] => Rule::Number(*number),
-        _ => Rule::Set(numbers.try_copy()?),
-    })
 }

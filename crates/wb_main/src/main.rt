@@ -19,6 +19,7 @@ mod run_shown;
 mod runs;
 mod set_work;
 mod told;
+mod tried_mends;
 mod unasked;
 mod whole_file;
 mod work;

@@ -112,7 +112,7 @@ impl<'a> ProgressLine<'a> {
     }
 
     /// The estimate as a failure is tried; `None` if there is none, or if sets are tried afterwards.
-    fn estimate(&self, at: Failing) -> Option<Estimate> {
+    fn estimate(&self, at: &Failing) -> Option<Estimate> {
         if !self.ends_with(1) {
             return None;
         }
@@ -204,7 +204,7 @@ impl<'a> Progress for ProgressLine<'a> {
         self.work = Work::new(last);
     }
 
-    fn begin_failure(&mut self, at: Failing) {
+    fn begin_failure(&mut self, at: &Failing) {
         if self.due.is_none() {
             return;
         }

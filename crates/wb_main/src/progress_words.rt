@@ -23,7 +23,7 @@ pub struct Fine {
 /// The line on a failure that is tried: the failure, the last number that will be tried, what is known to show nothing, and the estimate;
 /// `None` if there is no room for the failure.
 pub fn line_of(
-    at: Failing,
+    at: &Failing,
     last: u32,
     fine: Option<Fine>,
     estimate: Option<Estimate>,
@@ -34,20 +34,21 @@ pub fn line_of(
     Some(line)
 }
 
-/// The number of a failure. Of a pair of attempts, which is tried as a set, it is the first attempt's.
-pub fn number_of(at: Failing) -> u32 {
+/// The number of a failure. Of a pair or a set, it is the first attempt's, and 0 of an empty set.
+pub fn number_of(at: &Failing) -> u32 {
     match at {
-        Failing::Number(number) | Failing::Every(number) => number,
-        Failing::From(number) | Failing::Pair(number, _) => number,
+        Failing::Number(number) | Failing::Every(number) => *number,
+        Failing::From(number) | Failing::Pair(number, _) => *number,
+        Failing::Set(numbers) => numbers.get(0).copied().unwrap_or(0),
     }
 }
 
-fn put_failing(line: &mut ArrayString<WIDEST>, at: Failing, last: u32) -> fmt::Result {
+fn put_failing(line: &mut ArrayString<WIDEST>, at: &Failing, last: u32) -> fmt::Result {
     let number = number_of(at);
     match at {
         Failing::Every(_) => write!(line, "trying rate {number} of {last}"),
         Failing::From(_) => write!(line, "trying failure from attempt {number} of {last} on"),
-        Failing::Number(_) | Failing::Pair(_, _) => {
+        Failing::Number(_) | Failing::Pair(_, _) | Failing::Set(_) => {
             write!(line, "trying attempt {number} of {last}")
         }
     }

@@ -95,7 +95,7 @@ fn is_plain(run: &WatchedRun<'_>) -> bool {
 /// Whether the runs are watched so that everything that a picture draws is kept. A picture needs all of this, and so does the text on what
 /// fills the heap.
 fn is_kept_whole(answer: Answer<'_>) -> bool {
-    answer.command.picture.is_some() || answer.findings.rises.is_some()
+    answer.command.picture.is_some() || answer.findings.values.rises.is_some()
 }
 
 /// Returns the run without failure, if it was watched with all of its attempts and cells kept; else `None`.
@@ -108,7 +108,7 @@ pub fn plain_run<'a>(answer: Answer<'_>, runs: &'a Runs<'a>) -> Option<&'a Watch
 }
 
 /// The rule of the run to explain and to draw. For `run`, the result is `None` if no rule was given, nothing was found and no picture is
-/// drawn. For other tasks, the result is `None` if the report names no failure, no set and no length. The only error is that memory ran
+/// drawn. For other tasks, the result is `None` if the report names no failure and no length. The only error is that memory ran
 /// out.
 fn rule_to_watch(
     task: &Task,
@@ -128,18 +128,18 @@ fn rule_to_watch(
 
 /// The least length of a heap whose run leaks or panics, in bytes; `None` if there is no such length.
 fn length_to_explain(findings: &Findings) -> Option<u32>
-    ensures { result ≡ option_and_then first_bad findings.now.ranges }
+    ensures { result ≡ option_and_then first_bad findings.now.values.ranges }
 {
-    first_bad(findings.ranges.as_ref()?)
+    first_bad(findings.values.ranges.as_ref()?)
 }
 
 /// Returns whether there is a run to explain even if nothing was found. For `run`, there is such a run if a rule was given. For other
-/// tasks, there is such a run if the report names a failure, a set or a length.
+/// tasks, there is such a run if the report names a failure or a length.
 pub fn has_run_to_explain(task: &Task, findings: &Findings) -> bool {
     match task {
         Task::Run(Rule::Unlimited) => false,
         Task::Run(_) => true,
         Task::Lengths => length_to_explain(findings).is_some(),
-        _ => findings.at.is_some() || findings.set.is_some(),
+        _ => findings.values.named.is_some(),
     }
 }

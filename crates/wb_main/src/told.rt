@@ -1,5 +1,5 @@
 //! Makes the texts that come in addition to an answer: the text for standard error, the picture, and the log. To make them, the script is
-//! read once more, and each run that they are about is watched once.
+//! read once more, and each run that they are about is watched once. Changes of the script may be read and run besides (`tried_mends`).
 
 ghost use Rattle.std.specs.Prelude.{IsTrue};
 ghost use Rattle.wb_tree.specs.Sound.{is_script};
@@ -175,7 +175,7 @@ fn shown_runs<'a>(runs: &'a Runs<'a>) -> Option<ShownRuns<'a>> {
 
 /// The table at the side of a picture.
 fn table_of<'a>(task: &Task, findings: &'a Findings) -> Table<'a> {
-    match (task, &findings.ranges) {
+    match (task, &findings.values.ranges) {
         (Task::Size | Task::Check(_), _) => Table::Refusals,
         (Task::Lengths, Some(ranges)) => Table::Lengths(ranges.as_slice()),
         _ => Table::Nothing,

@@ -8,18 +8,20 @@ ghost use Rattle.wb_tree.specs.Sound.{is_script};
 
 use crate::asked::{budget_of, search_of};
 use crate::progress_line::ProgressLine;
+use crate::progress_words::number_of;
 use std::alloc::Global;
-use wb_basics::limits::LARGEST_BUDGET;
+use std::slice;
 use wb_explain::runs::{Question, Shown};
-use wb_heap_model::heap::{Numbers, Rule, Shape};
+use wb_heap_model::heap::{Rule, Shape};
 use wb_lengths::{first_bad, lengths_within};
-use wb_machine::run;
+use wb_machine::run_reporting;
+use wb_meaning::conditions::Conditions;
 use wb_runs::failures::{Failing, Failures};
 use wb_runs::lengths::LengthTable;
 use wb_runs::part::Part;
 use wb_runs::progress::{Progress, Silent};
 use wb_runs::run_end::RunEnd;
-use wb_sweep::{FoundSet, sweep, sweep_every_set};
+use wb_sweep::{Found, sweep_every_set, sweep_whole};
 use wb_tree::script::Script;
 use workbench::{Command, Search};
 
@@ -48,7 +50,7 @@ pub enum Verdict {
     /// The table of all lengths, some of whose runs leak or panic, and the least length of such a run, in bytes.
     Length(LengthTable, u32),
     /// The least set whose run leaks or panics in a heap in which each cell that grows moves, and how that run ends.
-    Set(Numbers, RunEnd),
+    Set(Failing, RunEnd),
 }
 
 impl Verdict {
@@ -58,8 +60,17 @@ impl Verdict {
             Verdict::Fine | Verdict::Undecided => None,
             Verdict::From(first, end) => Some(Shown::Persistent(*first, *end)),
             Verdict::Length(table, _) => Some(Shown::Lengths(table.as_slice())),
-            Verdict::Set(numbers, end) => Some(Shown::Sets(numbers.as_slice(), *end)),
+            Verdict::Set(at, end) => Some(Shown::Sets(numbers_of(at), *end)),
         }
+    }
+}
+
+/// The numbers of the attempts that fail, under a failure that a sweep over sets found.
+fn numbers_of(at: &Failing) -> &[u32] {
+    match at {
+        Failing::Set(numbers) => numbers.as_slice(),
+        Failing::Number(0) | Failing::Every(_) | Failing::From(_) | Failing::Pair(_, _) => &[],
+        Failing::Number(number) => slice::from_ref(number),
     }
 }
 
@@ -102,11 +113,13 @@ fn answer<P: Progress>(
 ) -> Verdict
     requires { IsTrue (is_script script.now) }
 {
-    let (budget, shape) = (budget_of(command), command.shape);
+    let Some(conditions) = Conditions::new(budget_of(command), command.shape) else {
+        return Verdict::Undecided;
+    };
     match question {
-        Question::Persistent => ask_persistent(alloc, script, budget, shape, progress),
-        Question::Lengths => ask_lengths(alloc, script, budget, shape, progress),
-        Question::Sets => ask_sets(alloc, script, budget, shape, progress),
+        Question::Persistent => ask_persistent(alloc, script, conditions, progress),
+        Question::Lengths => ask_lengths(alloc, script, conditions, progress),
+        Question::Sets => ask_sets(alloc, script, conditions, progress),
     }
 }
 
@@ -115,48 +128,33 @@ fn answer<P: Progress>(
 fn ask_persistent<P: Progress>(
     alloc: Global,
     script: &Script,
-    budget: u32,
-    shape: Shape,
+    conditions: Conditions,
     progress: &mut P,
 ) -> Verdict
     requires script { IsTrue (is_script script.now) }
-    requires least { 1 ≤ budget }
-    requires greatest { budget ≤ LARGEST_BUDGET }
 {
-    let Some((attempts, _)) = attempts_and_steps(alloc, script, budget, shape) else {
+    let Some((attempts, _)) = attempts_and_steps(alloc, script, conditions) else {
         return Verdict::Undecided;
     };
     let share = (MOST_STEPS_FROM / attempts.saturating_add(2)).max(1);
-    let failures = Failures::Persistent;
-    match sweep(alloc, script, failures, share.min(budget), shape, progress) {
+    let shorter = Conditions {
+        budget: share.min(conditions.budget),
+        shape: conditions.shape,
+    };
+    match sweep_whole(alloc, script, Failures::Persistent, shorter, progress) {
         Ok(swept) => match swept.found {
-            Some(found) => Verdict::From(first_of(found.at), RunEnd::of(&found.result.outcome)),
+            Some(found) => Verdict::From(number_of(&found.at), RunEnd::of(&found.result.outcome)),
             None => Verdict::Fine,
         },
         Err(_) => Verdict::Undecided,
     }
 }
 
-/// The number of the first attempt that fails.
-fn first_of(at: Failing) -> u32 {
-    match at {
-        Failing::Number(number) | Failing::Every(number) => number,
-        Failing::From(number) | Failing::Pair(number, _) => number,
-    }
-}
-
 /// How many attempts the run without failure makes, and how many steps it takes; `None` if memory ran out.
-fn attempts_and_steps(
-    alloc: Global,
-    script: &Script,
-    budget: u32,
-    shape: Shape,
-) -> Option<(u32, u32)>
+fn attempts_and_steps(alloc: Global, script: &Script, conditions: Conditions) -> Option<(u32, u32)>
     requires script { IsTrue (is_script script.now) }
-    requires least { 1 ≤ budget }
-    requires greatest { budget ≤ LARGEST_BUDGET }
 {
-    let plain = run(alloc, script, Rule::Number(0), budget, shape).ok()?;
+    let plain = run_reporting(alloc, script, Rule::Number(0), conditions, &mut Silent).ok()?;
     let attempts = u32::try_from(plain.trace.len()).ok()?;
     Some((attempts, plain.steps))
 }
@@ -165,22 +163,13 @@ fn attempts_and_steps(
 fn ask_lengths<P: Progress>(
     alloc: Global,
     script: &Script,
-    budget: u32,
-    shape: Shape,
+    conditions: Conditions,
     progress: &mut P,
 ) -> Verdict
     requires script { IsTrue (is_script script.now) }
-    requires least { 1 ≤ budget }
-    requires greatest { budget ≤ LARGEST_BUDGET }
 {
-    let Ok(Some(table)) = lengths_within(
-        alloc,
-        script,
-        budget,
-        shape,
-        MOST_STEPS_OF_LENGTHS,
-        progress,
-    ) else {
+    let Ok(Some(table)) = lengths_within(alloc, script, conditions, MOST_STEPS_OF_LENGTHS, progress)
+    else {
         return Verdict::Undecided;
     };
     match first_bad(&table) {
@@ -199,27 +188,25 @@ fn has_cut(table: &LengthTable) -> bool {
 fn ask_sets<P: Progress>(
     alloc: Global,
     script: &Script,
-    budget: u32,
-    shape: Shape,
+    conditions: Conditions,
     progress: &mut P,
 ) -> Verdict
     requires script { IsTrue (is_script script.now) }
-    requires least { 1 ≤ budget }
-    requires greatest { budget ≤ LARGEST_BUDGET }
 {
-    let shape = Shape {
-        moving: true,
-        ..shape
+    let moving = Conditions {
+        budget: conditions.budget,
+        shape: Shape {
+            moving: true,
+            ..conditions.shape
+        },
     };
-    let Some((attempts, steps)) = attempts_and_steps(alloc, script, budget, shape) else {
+    let Some((attempts, steps)) = attempts_and_steps(alloc, script, moving) else {
         return Verdict::Undecided;
     };
     let states = states_for(attempts, steps);
-    match sweep_every_set(alloc, script, Part::WHOLE, states, budget, shape, progress) {
+    match sweep_every_set(alloc, script, Part::WHOLE, states, moving, progress) {
         Ok(swept) => match swept.found {
-            Some(FoundSet { numbers, result }) => {
-                Verdict::Set(numbers, RunEnd::of(&result.outcome))
-            }
+            Some(Found { at, result }) => Verdict::Set(at, RunEnd::of(&result.outcome)),
             None => Verdict::Fine,
         },
         Err(_) => Verdict::Undecided,

@@ -2,5 +2,6 @@
 //! attempts.
 #![tactic(auto)]
 
+pub mod conditions;
 pub mod progress;
 pub mod run;

@@ -13,7 +13,7 @@ use Rattle.wb_meaning.specs.declared.run.Why.TheVariants.{Ceiling}
 use Rattle.wb_tree.specs.declared.script.Script.{Script}
 use Rattle.wb_runs.specs.Parts as parts
 use Rattle.wb_runs.specs.SetAnswers as sets
-use Rattle.wb_runs.specs.Sweeps.{failing_at, is_cut_outcome, runs_of}
+use Rattle.wb_runs.specs.Sweeps.{failing_at, failing_set, is_cut_outcome, runs_of}
 use Rattle.wb_runs.proofs.SameRuns.{past_the_last}
 use Rattle.wb_answers.specs.Answered.{HasAnswer, HasAnswerIn, HasEverySetAnswer, HasEverySetAnswerIn, HasLeastBadOf, HasSetAnswer, HasSetAnswerIn}
 use Rattle.wb_answers.proofs.Judged.{cut-or-not}
@@ -29,10 +29,10 @@ use Rattle.workbench.specs.declared.report_values.ReportValues.{ReportValues}
 use Rattle.workbench.specs.AllReport.{all_text, fine_status, told_of, IsListReport}
 use Rattle.workbench.specs.EverySetReport.{no_set_at_all_line, IsEverySetReport, IsLeastSetCutOver, IsLeastSetFoundOver, IsNoSetOfAnySizeOver}
 use Rattle.workbench.specs.PartReport.{is_whole, IsReportOver}
-use Rattle.workbench.specs.ReportValues.{all_values, cut_set_values, cut_values, set_values, sweep_values}
+use Rattle.workbench.specs.ReportValues.{all_values, cut_values, sweep_values}
 use Rattle.workbench.specs.RunText.{run_text}
 use Rattle.workbench.specs.SearchReport.{IsSearchReport}
-use Rattle.workbench.specs.SetsReport.{cut_set_line, found_set_text, no_set_line, IsNoSetOver, IsSetCutOver, IsSetFoundOver, IsSetsReport}
+use Rattle.workbench.specs.SetsReport.{no_set_line, IsNoSetOver, IsSetCutOver, IsSetFoundOver, IsSetsReport}
 use Rattle.workbench.specs.TwoNumbers.{attempts_line, attempts_of, cut_at_line, found_text, none_line}
 
 -- a text, values and a status of which this holds
@@ -150,8 +150,8 @@ module _ (script : Script) (budget : ℕ) (shape : Shape) where
     sets-found : (most : ℕ) (numbers : List ℕ) (result : RunResult) → IsSetFoundOver (is_whole part) part most script budget shape numbers result →
         AnyOf (IsSetsReport part most script budget shape)
     sets-found most numbers result is = (
-      attempts_line made ++ found_set_text numbers result,
-      set_values made numbers,
+      attempts_line made ++ found_text (failing_set numbers) result,
+      sweep_values made (At (failing_set numbers)),
       1,
       inl (record { numbers = numbers; result = result; found = is; text_is = refl; values_are = refl }, refl),
     )
@@ -159,8 +159,8 @@ module _ (script : Script) (budget : ℕ) (shape : Shape) where
     sets-cut : (most : ℕ) (numbers : List ℕ) (why : Why) → IsSetCutOver (is_whole part) part most script budget shape numbers why →
         AnyOf (IsSetsReport part most script budget shape)
     sets-cut most numbers why is = (
-      cut_set_line numbers why,
-      cut_set_values numbers,
+      cut_at_line (failing_set numbers) why,
+      cut_values (failing_set numbers),
       3,
       inr (inr (record { numbers = numbers; why = why; cut = is; text_is = refl; values_are = refl }, refl)),
     )
@@ -221,14 +221,14 @@ module _ (script : Script) (budget : ℕ) (shape : Shape) where
     every-set-report : (states : ℕ) → AnyOf (IsEverySetReport part states script budget shape)
     every-set-report states = elim (every-over (is_whole part)) [
       | inl is ↦ (
-        attempts_line made ++ found_set_text is.0 is.1,
-        set_values made is.0,
+        attempts_line made ++ found_text (failing_set is.0) is.1,
+        sweep_values made (At (failing_set is.0)),
         1,
         inl (record { numbers = is.0; result = is.1; found = is.2; text_is = refl; values_are = refl }, refl),
       )
       | inr (inl is) ↦ (
-        cut_set_line is.0 is.1,
-        cut_set_values is.0,
+        cut_at_line (failing_set is.0) is.1,
+        cut_values (failing_set is.0),
         3,
         inr (inr (inl (record { numbers = is.0; why = is.1; cut = is.2; text_is = refl; values_are = refl }, refl))),
       )

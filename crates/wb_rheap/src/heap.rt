@@ -2,7 +2,7 @@
 //! and the committed length and the longest free run are in `space`. The cells are in the crate `wb_cells`.
 
 ghost use Rattle.std.specs.Prelude.{◌≡◌, ◌≢◌, ◌+◌, ◌*◌, ◌<◌, ◌≤◌, ◌↔◌, false, length, take, sum, All, IfOk, IfErr};
-ghost use Rattle.std.specs.Prelude.{IfSome, OnOk, OnErr, Some, None, option_map};
+ghost use Rattle.std.specs.Prelude.{IfSome, IsOk, IsTrue, OnOk, OnErr, Some, None, option_map};
 ghost use Rattle.wb_heap_model.specs.CellRow.{payload_of};
 ghost use Rattle.wb_heap_model.specs.LimitedHeap.{IsCellLength, IsLiveBelow, IsSoundHeap, empty_heap, place_in};
 ghost use Rattle.wb_heap_model.specs.LimitedHeap.{committed_with, heap_with, heap_without, heap_compressed};
@@ -64,9 +64,21 @@ impl Heap {
         ensures no_growth { (empty_heap limit shape).held ≡ 0 → result ≢ Err HeapFault.NoMemory }
         ensures sound { IfOk result IsSoundHeap }
     {
-        if !space::may_have_shape(shape) {
+        if !shape.is_allowed() {
             return Err(HeapFault::BadShape);
         }
+        Ok(Heap::of_shape(alloc, limit, shape)?)
+    }
+
+    /// Returns the heap that `new` returns, for a shape that is known to be allowed. Returns `NoMemory` if the workbench's memory runs out,
+    /// which can't happen if the committed length is 0.
+    pub fn of_shape(alloc: Global, limit: u32, shape: Shape) -> Result<Heap, NoMemory>
+        requires limit { limit ≤ CEILING }
+        requires shape { IsTrue (is_shape shape) }
+        ensures ok { IfOk result (λ heap. heap ≡ empty_heap limit shape) }
+        ensures no_growth { (empty_heap limit shape).held ≡ 0 → IsOk result }
+        ensures sound { IfOk result IsSoundHeap }
+    {
         let committed = space::least_for(limit, shape);
         let mut cells = Cells::new(alloc);
         cells.reserve(committed)?;

@@ -5,20 +5,9 @@ ghost use Rattle.wb_heap_model.specs.Row.{headers, top_of};
 ghost use Rattle.wb_heap_model.specs.Space.{is_shape, space_below, bound_below, round_up, committed_by, compressed_to};
 ghost use Rattle.wb_heap_model.specs.Space.{free_runs, longest};
 
-use wb_basics::limits::{CEILING, LARGEST_MINIMUM, LARGEST_STEP, SMALLEST_STEP};
+use wb_basics::limits::CEILING;
 use wb_cells::Cells;
 use wb_heap_model::heap::Shape;
-
-/// Whether the shape is allowed for a heap.
-pub fn may_have_shape(shape: Shape) -> bool
-    ensures { result ≡ is_shape shape }
-{
-    shape.min % 16 == 0
-        && shape.min <= LARGEST_MINIMUM
-        && shape.step % 16 == 0
-        && shape.step >= SMALLEST_STEP
-        && shape.step <= LARGEST_STEP
-}
 
 /// Returns the greatest committed length under a limit: the limit rounded down to a multiple of 16.
 pub fn greatest_below(limit: u32) -> u32

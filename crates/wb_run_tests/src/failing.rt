@@ -8,7 +8,8 @@ use std::alloc::Global;
 use std::test::Fail;
 use wb_heap_model::heap::{Answer, Rule, Shape};
 use wb_machine::run;
-use wb_runs::failures::{Failing, Failures};
+use wb_meaning::run::Why;
+use wb_runs::failures::Failures;
 use wb_runs::part::Part;
 use wb_script::read;
 use wb_sweep::fault::SweepFault;
@@ -61,18 +62,35 @@ pub(crate) fn are_answered(
     Ok(answers_of(alloc, script, rule.rule())?.as_slice() == wanted)
 }
 
-/// Returns the failure that a sweep of the script finds, or the fault because of which the sweep finds nothing.
+/// The cut of a sweep, as plain data, which rows of tables may hold.
+#[derive(Clone, Copy, Debug, PartialEq, Eq)]
+pub(crate) struct Cut {
+    pub(crate) at: Refuses,
+    pub(crate) why: Why,
+}
+
+/// Returns the cut because of which a sweep has no answer. Any other fault is an error.
+fn cut_of(fault: SweepFault) -> Result<Cut, SweepFault> {
+    match fault {
+        SweepFault::Cut { at, why } => Ok(Cut {
+            at: Refuses::named(&at),
+            why,
+        }),
+        other => Err(other),
+    }
+}
+
+/// Returns the failure that a sweep of the script finds, or the cut because of which the sweep finds nothing.
 pub(crate) fn found_in(
     alloc: Global,
     script: &[u8],
     failures: Failures,
-) -> Result<Result<Option<Failing>, SweepFault>, Fail> {
+) -> Result<Result<Option<Refuses>, Cut>, Fail> {
     let script = read(alloc, script)?;
-    let swept = sweep(alloc, &script, failures, 99, SHAPE, &mut Silent);
-    Ok(match swept {
-        Ok(swept) => Ok(swept.found.as_ref().map(|found| found.at)),
-        Err(fault) => Err(fault),
-    })
+    match sweep(alloc, &script, failures, 99, SHAPE, &mut Silent) {
+        Ok(swept) => Ok(Ok(swept.found.as_ref().map(|found| Refuses::named(&found.at)))),
+        Err(fault) => Ok(Err(cut_of(fault)?)),
+    }
 }
 
 /// The report and the status that `sweep` or `check` must give for the script `FALLBACK`, in lines or as JSON.

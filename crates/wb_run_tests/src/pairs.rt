@@ -1,13 +1,12 @@
 //! Runs, sweeps and reports in which two attempts fail.
 
-use crate::failing::{FALLBACK, SETS, SETS_NONE, Wanted, are_answered, found_in, is_answered};
+use crate::failing::{Cut, FALLBACK, SETS, SETS_NONE, Wanted, are_answered, found_in, is_answered};
 use crate::rules::Refuses;
 use std::test::Fail;
 use wb_heap_model::heap::Answer;
 use wb_heap_model::heap::Answer::{Granted, Simulated};
 use wb_meaning::run::Why;
-use wb_runs::failures::{Failing, Failures};
-use wb_sweep::fault::SweepFault;
+use wb_runs::failures::Failures;
 
 /// Scripts and rules, each with the answers to the attempts of the run.
 static RUNS: [(&[u8], Refuses, &[Answer]); 9] = [
@@ -96,31 +95,31 @@ pub(crate) const WAITS_FOR_ONE: &[u8] =
 const LEAKS: &[u8] = b"proc main\nptr a\nalloc a 1\nend\n";
 
 /// Scripts, each with what a sweep over pairs finds.
-static SWEEPS: [(&[u8], Result<Option<Failing>, SweepFault>); 8] = [
-    (FALLBACK, Ok(Some(Failing::Pair(2, 4)))),
+static SWEEPS: [(&[u8], Result<Option<Refuses>, Cut>); 8] = [
+    (FALLBACK, Ok(Some(Refuses::Pair(2, 4)))),
     (SETS_NONE, Ok(None)),
     // A single number comes before every pair, even before a pair of lower numbers.
-    (FALLBACK_AND_GROWTH, Ok(Some(Failing::Number(4)))),
-    (LEAKS, Ok(Some(Failing::Number(0)))),
+    (FALLBACK_AND_GROWTH, Ok(Some(Refuses::Number(4)))),
+    (LEAKS, Ok(Some(Refuses::Number(0)))),
     (
         WAITS,
-        Err(SweepFault::Cut {
-            at: Failing::Pair(2, 3),
+        Err(Cut {
+            at: Refuses::Pair(2, 3),
             why: Why::Budget,
         }),
     ),
     (
         WAITS_AND_FORGETS,
-        Err(SweepFault::Cut {
-            at: Failing::Pair(2, 3),
+        Err(Cut {
+            at: Refuses::Pair(2, 3),
             why: Why::Budget,
         }),
     ),
-    (FORGETS_AND_WAITS, Ok(Some(Failing::Pair(3, 4)))),
+    (FORGETS_AND_WAITS, Ok(Some(Refuses::Pair(3, 4)))),
     (
         WAITS_FOR_ONE,
-        Err(SweepFault::Cut {
-            at: Failing::Number(2),
+        Err(Cut {
+            at: Refuses::Number(2),
             why: Why::Budget,
         }),
     ),

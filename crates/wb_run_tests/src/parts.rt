@@ -1,22 +1,28 @@
 //! Sweeps over a part of the numbers. Some sweeps find the first bad number, and others list all numbers.
 
+use crate::failing::Cut;
+use crate::rules::Refuses;
 use std::test::Fail;
 use wb_basics::limits::{CEILING, DEFAULT_BUDGET};
 use wb_heap_model::heap::{Panic, Shape};
+use wb_meaning::conditions::Conditions;
 use wb_meaning::run::Why;
-use wb_runs::failures::{Failing, Failures};
+use wb_runs::failures::Failures;
 use wb_runs::number_ends::NumberEnd;
 use wb_runs::part::Part;
 use wb_runs::progress::Silent;
 use wb_runs::run_end::RunEnd;
 use wb_script::read;
-use wb_sweep::fault::SweepFault;
-use wb_sweep::{Listing, sweep_all, sweep_part};
+use wb_sweep::{Listing, Unswept, sweep_all, sweep_part};
 
-const SHAPE: Shape = Shape {
-    min: 4096,
-    step: 4096,
-    moving: false,
+/// The conditions of all sweeps of this file.
+const CONDITIONS: Conditions = Conditions {
+    budget: DEFAULT_BUDGET,
+    shape: Shape {
+        min: 4096,
+        step: 4096,
+        moving: false,
+    },
 };
 
 /// Asks for three cells by lines that leave if the attempt fails. If attempt 3 fails, one cell leaks. If attempt 4 fails, two cells leak.
@@ -51,70 +57,81 @@ const EACH_IN_ITS_WAY: &[u8] =
 type Asked = (&'static [u8], Failures, u32, u32);
 
 /// What sweeps over parts find: how many attempts the run without failure makes, and the first bad failure.
-static PARTS: [(Asked, Result<(u32, Option<Failing>), SweepFault>); 16] = [
+static PARTS: [(Asked, Result<(u32, Option<Refuses>), Cut>); 16] = [
     (
         (THREE_CELLS, Failures::Single, 0, CEILING),
-        Ok((4, Some(Failing::Number(3)))),
+        Ok((4, Some(Refuses::Number(3)))),
     ),
     ((THREE_CELLS, Failures::Single, 0, 2), Ok((4, None))),
     (
         (THREE_CELLS, Failures::Single, 3, 3),
-        Ok((4, Some(Failing::Number(3)))),
+        Ok((4, Some(Refuses::Number(3)))),
     ),
     (
         (THREE_CELLS, Failures::Single, 4, CEILING),
-        Ok((4, Some(Failing::Number(4)))),
+        Ok((4, Some(Refuses::Number(4)))),
     ),
     ((THREE_CELLS, Failures::Single, 5, 9), Ok((4, None))),
     (
         (THREE_CELLS, Failures::Every, 3, CEILING),
-        Ok((4, Some(Failing::Every(3)))),
+        Ok((4, Some(Refuses::Every(3)))),
     ),
     (
         (THREE_CELLS, Failures::Persistent, 4, CEILING),
-        Ok((4, Some(Failing::From(4)))),
+        Ok((4, Some(Refuses::From(4)))),
     ),
     // The part doesn't include the run that is cut.
     (
         (WAITS_AND_LEAKS, Failures::Single, 3, CEILING),
-        Ok((3, Some(Failing::Number(3)))),
+        Ok((3, Some(Refuses::Number(3)))),
     ),
     (
         (WAITS_AND_LEAKS, Failures::Single, 0, 2),
-        Err(SweepFault::Cut {
-            at: Failing::Number(2),
+        Err(Cut {
+            at: Refuses::Number(2),
             why: Why::Budget,
         }),
     ),
     // The run without failure leaks. A part that begins at number 1 judges neither this run nor runs for numbers past its last attempt.
     (
         (LEAKS, Failures::Single, 0, CEILING),
-        Ok((2, Some(Failing::Number(0)))),
+        Ok((2, Some(Refuses::Number(0)))),
     ),
     ((LEAKS, Failures::Single, 1, CEILING), Ok((2, None))),
     (
         (WAITS, Failures::Single, 1, CEILING),
-        Err(SweepFault::Cut {
-            at: Failing::Number(0),
+        Err(Cut {
+            at: Refuses::Number(0),
             why: Why::Budget,
         }),
     ),
     // Only the first number of a pair must be in the part; the second may be any number.
     (
         (SECOND_TRY, Failures::Pairs, 3, 3),
-        Ok((3, Some(Failing::Pair(3, 4)))),
+        Ok((3, Some(Refuses::Pair(3, 4)))),
     ),
     ((SECOND_TRY, Failures::Pairs, 0, 2), Ok((3, None))),
     // The run in which only attempt 4 fails leaks, but the first part doesn't include number 4.
     (
         (FAILS_ONE, Failures::Pairs, 3, 3),
-        Ok((4, Some(Failing::Pair(3, 4)))),
+        Ok((4, Some(Refuses::Pair(3, 4)))),
     ),
     (
         (FAILS_ONE, Failures::Pairs, 3, 4),
-        Ok((4, Some(Failing::Number(4)))),
+        Ok((4, Some(Refuses::Number(4)))),
     ),
 ];
+
+/// Returns the cut because of which a sweep has no answer. Any other fault is an error.
+fn cut_of(fault: Unswept) -> Result<Cut, Unswept> {
+    match fault {
+        Unswept::Cut { at, why } => Ok(Cut {
+            at: Refuses::named(&at),
+            why,
+        }),
+        other => Err(other),
+    }
+}
 
 #[test]
 fn parts_find_their_least(rt: HostRuntime) -> Result<(), Fail> {
@@ -129,13 +146,15 @@ fn parts_find_their_least(rt: HostRuntime) -> Result<(), Fail> {
             &script,
             *failures,
             part,
-            DEFAULT_BUDGET,
-            SHAPE,
+            CONDITIONS,
             &mut Silent,
         );
         let told = match told {
-            Ok(swept) => Ok((swept.attempts, swept.found.as_ref().map(|found| found.at))),
-            Err(fault) => Err(fault),
+            Ok(swept) => {
+                let found = swept.found.as_ref().map(|found| Refuses::named(&found.at));
+                Ok((swept.attempts, found))
+            }
+            Err(fault) => Err(cut_of(fault)?),
         };
         assert_eq!(rt; told, *wanted, "part {row}");
     }
@@ -144,7 +163,7 @@ fn parts_find_their_least(rt: HostRuntime) -> Result<(), Fail> {
 
 /// What a sweep lists of a part: the numbers whose runs aren't fine, how many of these runs leak or panic, and the first failure whose run
 /// does so.
-static NUMBERS: [(Asked, &[NumberEnd], usize, Option<Failing>); 7] = [
+static NUMBERS: [(Asked, &[NumberEnd], usize, Option<Refuses>); 7] = [
     (
         (THREE_CELLS, Failures::Single, 0, CEILING),
         &[
@@ -158,7 +177,7 @@ static NUMBERS: [(Asked, &[NumberEnd], usize, Option<Failing>); 7] = [
             },
         ],
         2,
-        Some(Failing::Number(3)),
+        Some(Refuses::Number(3)),
     ),
     (
         (THREE_CELLS, Failures::Single, 4, CEILING),
@@ -167,7 +186,7 @@ static NUMBERS: [(Asked, &[NumberEnd], usize, Option<Failing>); 7] = [
             end: RunEnd::Leaked(2),
         }],
         1,
-        Some(Failing::Number(4)),
+        Some(Refuses::Number(4)),
     ),
     ((THREE_CELLS, Failures::Single, 5, CEILING), &[], 0, None),
     // The run leaves at its first failed attempt, so later failures make no difference.
@@ -184,7 +203,7 @@ static NUMBERS: [(Asked, &[NumberEnd], usize, Option<Failing>); 7] = [
             },
         ],
         2,
-        Some(Failing::From(3)),
+        Some(Refuses::From(3)),
     ),
     (
         (WAITS_AND_LEAKS, Failures::Single, 0, CEILING),
@@ -199,7 +218,7 @@ static NUMBERS: [(Asked, &[NumberEnd], usize, Option<Failing>); 7] = [
             },
         ],
         1,
-        Some(Failing::Number(3)),
+        Some(Refuses::Number(3)),
     ),
     (
         (LEAKS, Failures::Single, 0, CEILING),
@@ -208,7 +227,7 @@ static NUMBERS: [(Asked, &[NumberEnd], usize, Option<Failing>); 7] = [
             end: RunEnd::Leaked(1),
         }],
         1,
-        Some(Failing::Number(0)),
+        Some(Refuses::Number(0)),
     ),
     (
         (EACH_IN_ITS_WAY, Failures::Every, 0, CEILING),
@@ -231,7 +250,7 @@ static NUMBERS: [(Asked, &[NumberEnd], usize, Option<Failing>); 7] = [
             },
         ],
         4,
-        Some(Failing::Every(2)),
+        Some(Refuses::Every(2)),
     ),
 ];
 
@@ -249,14 +268,13 @@ fn each_number_is_told(rt: HostRuntime) -> Result<(), Fail> {
             Listing::Unfine,
             *failures,
             part,
-            DEFAULT_BUDGET,
-            SHAPE,
+            CONDITIONS,
             &mut Silent,
         )?;
         assert!(rt; told.ends.as_slice() == *ends, "ends {row}");
         assert_eq!(rt; told.bad, *bad, "bad {row}");
         assert_eq!(rt;
-            told.found.as_ref().map(|found| found.at),
+            told.found.as_ref().map(|found| Refuses::named(&found.at)),
             *least,
             "least {row}"
         );
@@ -308,8 +326,7 @@ fn every_number_is_listed(rt: HostRuntime) -> Result<(), Fail> {
             Listing::Every,
             Failures::Single,
             part,
-            DEFAULT_BUDGET,
-            SHAPE,
+            CONDITIONS,
             &mut Silent,
         )?;
         assert!(rt; listed.ends.as_slice() == *ends, "ends {row}");
@@ -326,14 +343,13 @@ fn a_run_that_is_cut_tells_nothing(rt: HostRuntime) -> Result<(), Fail> {
         Listing::Unfine,
         Failures::Single,
         Part::WHOLE,
-        DEFAULT_BUDGET,
-        SHAPE,
+        CONDITIONS,
         &mut Silent,
     );
-    let cut = SweepFault::Cut {
-        at: Failing::Number(0),
+    let cut = Cut {
+        at: Refuses::Number(0),
         why: Why::Budget,
     };
-    assert_eq!(rt; told.err(), Some(cut));
+    assert_eq!(rt; cut_of(told.err().ok_or("swept")?)?, cut);
     Ok(())
 }

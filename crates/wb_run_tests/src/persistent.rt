@@ -1,7 +1,7 @@
 //! Runs, sweeps and reports in which one attempt and all later attempts fail.
 
 use crate::failing::{
-    FALLBACK, SETS, SETS_NONE, THRICE, Wanted, are_answered, found_in, is_answered,
+    Cut, FALLBACK, SETS, SETS_NONE, THRICE, Wanted, are_answered, found_in, is_answered,
 };
 use crate::pairs::WAITS_FOR_ONE;
 use crate::rules::Refuses;
@@ -9,8 +9,7 @@ use std::test::Fail;
 use wb_heap_model::heap::Answer;
 use wb_heap_model::heap::Answer::{Granted, Simulated};
 use wb_meaning::run::Why;
-use wb_runs::failures::{Failing, Failures};
-use wb_sweep::fault::SweepFault;
+use wb_runs::failures::Failures;
 
 /// Scripts and rules, each with the answers to the attempts of the run.
 static RUNS: [(&[u8], Refuses, &[Answer]); 8] = [
@@ -57,18 +56,18 @@ fn all_are_refused_from_one_on(rt: HostRuntime) -> Result<(), Fail> {
 }
 
 /// Scripts and kinds of failures, each with what a sweep finds.
-static SWEEPS: [(&[u8], Failures, Result<Option<Failing>, SweepFault>); 5] = [
+static SWEEPS: [(&[u8], Failures, Result<Option<Refuses>, Cut>); 5] = [
     // If attempt 2 fails, the next turn of the `repeat` makes another attempt. If only a single number or a rate fails, this other attempt
     // is granted.
     (THRICE, Failures::Single, Ok(None)),
     (THRICE, Failures::Every, Ok(None)),
-    (THRICE, Failures::Persistent, Ok(Some(Failing::From(2)))),
+    (THRICE, Failures::Persistent, Ok(Some(Refuses::From(2)))),
     (FALLBACK, Failures::Persistent, Ok(None)),
     (
         WAITS_FOR_ONE,
         Failures::Persistent,
-        Err(SweepFault::Cut {
-            at: Failing::From(2),
+        Err(Cut {
+            at: Refuses::From(2),
             why: Why::Budget,
         }),
     ),

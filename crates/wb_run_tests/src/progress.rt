@@ -6,6 +6,7 @@ ghost use Rattle.std.specs.Prelude.{⊤};
 mod told;
 
 use crate::progress::told::{TOLD, Wanted};
+use crate::rules::Refuses;
 use std::alloc::Global;
 use std::cell::Cell;
 use std::io;
@@ -21,7 +22,7 @@ use workbench::{Aim, Progress, StepProgress};
 #[derive(Drop)]
 struct Listener<'a> {
     /// The failures that are still to be reported.
-    to_come: &'static [Failing],
+    to_come: &'static [Refuses],
     /// Whether the sweep met states.
     has_met_states: bool,
     /// The lengths that are still to be reported, in bytes.
@@ -73,10 +74,10 @@ impl Progress for Listener<'_> {
         self.last = Some(last);
     }
 
-    fn begin_failure(&mut self, at: Failing) {
+    fn begin_failure(&mut self, at: &Failing) {
         match self.to_come.split_first() {
             Some((next, rest)) => {
-                self.is_as_wanted &= *next == at;
+                self.is_as_wanted &= *next == Refuses::named(at);
                 self.to_come = rest;
             }
             None => self.is_as_wanted = false,

@@ -5,7 +5,7 @@ use crate::rules::Refuses;
 use std::test::Fail;
 use wb_heap_model::heap::Answer;
 use wb_heap_model::heap::Answer::{Granted, Simulated};
-use wb_runs::failures::{Failing, Failures};
+use wb_runs::failures::Failures;
 
 /// Scripts and rules, each with the answers to the attempts of the run.
 static RUNS: [(&[u8], Refuses, &[Answer]); 9] = [
@@ -65,7 +65,7 @@ fn a_rate_refuses_its_multiples(rt: HostRuntime) -> Result<(), Fail> {
 fn a_rate_finds_what_no_number_does(rt: HostRuntime) -> Result<(), Fail> {
     assert_eq!(rt; found_in(rt.alloc(), FALLBACK, Failures::Single)?, Ok(None));
     let rate = found_in(rt.alloc(), FALLBACK, Failures::Every)?;
-    assert_eq!(rt; rate, Ok(Some(Failing::Every(2))));
+    assert_eq!(rt; rate, Ok(Some(Refuses::Every(2))));
     Ok(())
 }
 

@@ -3,9 +3,11 @@
 
 ghost use Rattle.std.specs.Prelude.{◌≤◌};
 
+use crate::rules::Refuses;
 use std::alloc::Global;
 use std::test::Fail;
 use wb_heap_model::heap::{Numbers, Shape};
+use wb_meaning::conditions::Conditions;
 use wb_runs::failures::{Failing, Failures};
 use wb_runs::part::Part;
 use wb_script::read;
@@ -52,10 +54,10 @@ impl Progress for Listener {
 
     fn begin_failures(&mut self, _first: u32, _last: u32) {}
 
-    fn begin_failure(&mut self, at: Failing) {
+    fn begin_failure(&mut self, at: &Failing) {
         self.are_in_order &= self.many == 1;
         self.failures = self.failures.wrapping_add(1);
-        self.are_in_order &= at == Failing::Number(self.failures);
+        self.are_in_order &= Refuses::named(at) == Refuses::Number(self.failures);
     }
 
     fn begin_sets(&mut self, many: u32) {
@@ -128,7 +130,11 @@ fn listen_to_sweep(alloc: Global, script: &[u8], most: u32) -> Result<Listener, 
         to: u32::MAX,
     };
     let mut listener = Listener::new();
-    sweep_sets(alloc, &script, all, most, 1_000, SHAPE, &mut listener)?;
+    let conditions = Conditions {
+        budget: 1_000,
+        shape: SHAPE,
+    };
+    sweep_sets(alloc, &script, all, most, conditions, &mut listener)?;
     Ok(listener)
 }
 

@@ -2,8 +2,8 @@
 
 use std::test::Fail;
 use wb_heap_model::heap::{Rule, Shape};
-use wb_lengths::{lengths, lengths_within};
 use wb_machine::{RunFault, run};
+use wb_meaning::conditions::Conditions;
 use wb_runs::failures::Failures;
 use wb_runs::progress::Silent;
 use wb_script::read;
@@ -38,13 +38,9 @@ fn no_size_has_it(rt: HostRuntime) -> Result<(), Fail> {
 }
 
 #[test]
-fn no_table_of_lengths_has_it(rt: HostRuntime) -> Result<(), Fail> {
-    let script = read(rt.alloc(), EMPTY)?;
-    let told = lengths(rt.alloc(), &script, 5, ODD, &mut Silent);
-    assert_eq!(rt; told.err(), Some(RunFault::BadShape));
-    let told = lengths_within(rt.alloc(), &script, 5, ODD, 100, &mut Silent);
-    assert_eq!(rt; told.err(), Some(RunFault::BadShape));
-    Ok(())
+fn no_conditions_have_it(rt: HostRuntime) {
+    assert_eq!(rt; Conditions::new(5, ODD), None);
+    assert!(rt; Conditions::new(5, Shape { min: 16, ..ODD }).is_some());
 }
 
 #[test]
@@ -57,7 +53,7 @@ fn no_sweep_has_it(rt: HostRuntime) -> Result<(), Fail> {
         Failures::Persistent,
     ] {
         let told = sweep(rt.alloc(), &script, failures, 3, ODD, &mut Silent);
-        assert_eq!(rt; told.err(), Some(SweepFault::BadShape));
+        assert!(rt; matches!(told, Err(SweepFault::BadShape)));
     }
     Ok(())
 }

@@ -1,5 +1,5 @@
 -- The order of failures: what of two such as one sweep tries comes before what, and what follows of a third.
-use Rattle.std.proofs.Common.{◌≡◌, ℕ, ◌<◌, ◌⊎◌, inl, inr, arith, true, false, refl, sym, ◌∙◌, ap}
+use Rattle.std.proofs.Common.{◌≡◌, ℕ, ◌<◌, ◌⊎◌, inl, inr, arith, nat_lt, true, false, refl, sym, ◌∙◌, ap}
 use Rattle.std.proofs.lemmas.Bool.{cases_order, false_from_ne_true, false≢true, le-ltb, lt-ltb, ltb-false, ltb-true, true≢false}
 use Rattle.wb_runs.specs.declared.failures.Failing.{Failing}
 use Rattle.wb_runs.specs.declared.failures.Failing.TheVariants.{Number, Every, Pair, From}
@@ -10,55 +10,34 @@ use Rattle.wb_runs.specs.Pairs.{ComesBefore}
 use Rattle.wb_runs.specs.Parts.{comes_before, IsTried}
 use Rattle.wb_runs.proofs.PartAnswers.{before_pair, pair_before}
 
--- both are rates, or the first numbers of failures that persist, or neither is either
+-- both are rates, or the first numbers of failures that persist, or each is a number or a pair
 abbrev pub AreAlike : Failing → Failing → Type 0
 AreAlike (Every m) (Every n) = Unit {0}
-AreAlike (Every m) (Number n) = ⊥
-AreAlike (Every m) (Pair i j) = ⊥
-AreAlike (Number m) (Every n) = ⊥
-AreAlike (Pair a b) (Every n) = ⊥
 AreAlike (From m) (From n) = Unit {0}
-AreAlike (From m) (Number n) = ⊥
-AreAlike (From m) (Every n) = ⊥
-AreAlike (From m) (Pair i j) = ⊥
-AreAlike (Number m) (From n) = ⊥
-AreAlike (Every m) (From n) = ⊥
-AreAlike (Pair a b) (From n) = ⊥
-AreAlike _ _ = Unit {0}
+AreAlike (Number m) (Number n) = Unit {0}
+AreAlike (Number m) (Pair i j) = Unit {0}
+AreAlike (Pair a b) (Number n) = Unit {0}
+AreAlike (Pair a b) (Pair i j) = Unit {0}
+AreAlike _ _ = ⊥
 
 pub tried-alike : (failures : Failures) (part next : Part) (last : ℕ) (at other : Failing) → IsTried failures part last at → IsTried failures next last other →
     AreAlike at other
 tried-alike kinds.Single part next last (Number m) (Number n) is too = tt
-tried-alike kinds.Single part next last (Number m) (Every n) is too = absurd too
-tried-alike kinds.Single part next last (Number m) (Pair i j) is too = absurd too
-tried-alike kinds.Single part next last (Number m) (From n) is too = absurd too
-tried-alike kinds.Single part next last (Every m) other is too = absurd is
-tried-alike kinds.Single part next last (From m) other is too = absurd is
-tried-alike kinds.Single part next last (Pair a b) other is too = absurd is
+tried-alike kinds.Single part next last (Number m) other is too = absurd too
+tried-alike kinds.Single part next last at other is too = absurd is
 tried-alike kinds.Every part next last (Every m) (Every n) is too = tt
-tried-alike kinds.Every part next last (Every m) (Number n) is too = absurd too
-tried-alike kinds.Every part next last (Every m) (Pair i j) is too = absurd too
-tried-alike kinds.Every part next last (Every m) (From n) is too = absurd too
-tried-alike kinds.Every part next last (Number m) other is too = absurd is
-tried-alike kinds.Every part next last (From m) other is too = absurd is
-tried-alike kinds.Every part next last (Pair a b) other is too = absurd is
+tried-alike kinds.Every part next last (Every m) other is too = absurd too
+tried-alike kinds.Every part next last at other is too = absurd is
 tried-alike kinds.Pairs part next last (Number m) (Number n) is too = tt
 tried-alike kinds.Pairs part next last (Number m) (Pair i j) is too = tt
-tried-alike kinds.Pairs part next last (Number m) (Every n) is too = absurd too
-tried-alike kinds.Pairs part next last (Number m) (From n) is too = absurd too
+tried-alike kinds.Pairs part next last (Number m) other is too = absurd too
 tried-alike kinds.Pairs part next last (Pair a b) (Number n) is too = tt
 tried-alike kinds.Pairs part next last (Pair a b) (Pair i j) is too = tt
-tried-alike kinds.Pairs part next last (Pair a b) (Every n) is too = absurd too
-tried-alike kinds.Pairs part next last (Pair a b) (From n) is too = absurd too
-tried-alike kinds.Pairs part next last (Every m) other is too = absurd is
-tried-alike kinds.Pairs part next last (From m) other is too = absurd is
+tried-alike kinds.Pairs part next last (Pair a b) other is too = absurd too
+tried-alike kinds.Pairs part next last at other is too = absurd is
 tried-alike kinds.Persistent part next last (From m) (From n) is too = tt
-tried-alike kinds.Persistent part next last (From m) (Number n) is too = absurd too
-tried-alike kinds.Persistent part next last (From m) (Every n) is too = absurd too
-tried-alike kinds.Persistent part next last (From m) (Pair i j) is too = absurd too
-tried-alike kinds.Persistent part next last (Number m) other is too = absurd is
-tried-alike kinds.Persistent part next last (Every m) other is too = absurd is
-tried-alike kinds.Persistent part next last (Pair a b) other is too = absurd is
+tried-alike kinds.Persistent part next last (From m) other is too = absurd too
+tried-alike kinds.Persistent part next last at other is too = absurd is
 
 -- ---- numbers and pairs
 
@@ -91,87 +70,34 @@ number_through a b c e f = let less = ltb-true a b e in let most = ltb-false c b
 pub through : (at middle other : Failing) → AreAlike at other → comes_before at middle ≡ true → comes_before other middle ≡ false → comes_before at other ≡ true
 through (Number a) (Number b) (Number c) alike e f = number_through a b c e f
 through (Number a) (Pair i j) (Number c) alike e f = absurd (true≢false f)
-through (Number a) (Every b) (Number c) alike e f = absurd (false≢true e)
+through (Number a) middle (Number c) alike e f = absurd (false≢true e)
 through (Number a) middle (Pair k l) alike e f = refl
-through (Number a) (From b) (Number c) alike e f = absurd (false≢true e)
-through (Number a) middle (Every c) alike e f = absurd alike
-through (Number a) middle (From c) alike e f = absurd alike
 through (Every a) (Every b) (Every c) alike e f = number_through a b c e f
-through (Every a) (Number b) (Every c) alike e f = absurd (false≢true e)
-through (Every a) (Pair i j) (Every c) alike e f = absurd (false≢true e)
-through (Every a) (From b) (Every c) alike e f = absurd (false≢true e)
-through (Every a) middle (Number c) alike e f = absurd alike
-through (Every a) middle (From c) alike e f = absurd alike
-through (Every a) middle (Pair k l) alike e f = absurd alike
+through (Every a) middle (Every c) alike e f = absurd (false≢true e)
 through (From a) (From b) (From c) alike e f = number_through a b c e f
-through (From a) (Number b) (From c) alike e f = absurd (false≢true e)
-through (From a) (Every b) (From c) alike e f = absurd (false≢true e)
-through (From a) (Pair i j) (From c) alike e f = absurd (false≢true e)
-through (From a) middle (Number c) alike e f = absurd alike
-through (From a) middle (Every c) alike e f = absurd alike
-through (From a) middle (Pair k l) alike e f = absurd alike
+through (From a) middle (From c) alike e f = absurd (false≢true e)
 through (Pair a b) (Pair i j) (Pair k l) alike e f =
     pair_before a b k l (pair_through a b i j k l (before_pair a b i j e) (λ before. false≢true (sym f ∙ pair_before k l i j before)))
 through (Pair a b) (Pair i j) (Number c) alike e f = absurd (true≢false f)
-through (Pair a b) (Number c) (Pair k l) alike e f = absurd (false≢true e)
-through (Pair a b) (Number c) (Number n) alike e f = absurd (false≢true e)
-through (Pair a b) (Every c) (Pair k l) alike e f = absurd (false≢true e)
-through (Pair a b) (Every c) (Number n) alike e f = absurd (false≢true e)
-through (Pair a b) (From c) (Pair k l) alike e f = absurd (false≢true e)
-through (Pair a b) (From c) (Number n) alike e f = absurd (false≢true e)
-through (Pair a b) middle (Every c) alike e f = absurd alike
-through (Pair a b) middle (From c) alike e f = absurd alike
+through (Pair a b) middle (Pair k l) alike e f = absurd (false≢true e)
+through (Pair a b) middle (Number c) alike e f = absurd (false≢true e)
+through at middle other alike e f = absurd alike
 
 -- of two one at most comes before the other
 pub not-after : (at other : Failing) → comes_before at other ≡ true → comes_before other at ≡ false
 not-after (Number m) (Number n) e = let less = ltb-true m n e in le-ltb n m (omega (arith, less))
-not-after (Number m) (Pair i j) e = refl
-not-after (Number m) (Every n) e = refl
-not-after (Number m) (From n) e = refl
 not-after (Every m) (Every n) e = let less = ltb-true m n e in le-ltb n m (omega (arith, less))
-not-after (Every m) (Number n) e = refl
-not-after (Every m) (Pair i j) e = refl
-not-after (Every m) (From n) e = refl
 not-after (From m) (From n) e = let less = ltb-true m n e in le-ltb n m (omega (arith, less))
-not-after (From m) (Number n) e = refl
-not-after (From m) (Every n) e = refl
-not-after (From m) (Pair i j) e = refl
-not-after (Pair a b) (Number n) e = absurd (false≢true e)
-not-after (Pair a b) (Every n) e = absurd (false≢true e)
-not-after (Pair a b) (From n) e = absurd (false≢true e)
+not-after (Number m) (Pair i j) e = refl
 not-after (Pair a b) (Pair i j) e =
     false_from_ne_true (comes_before (Pair i j) (Pair a b)) (λ f. pair_after a b i j (before_pair a b i j e) (before_pair i j a b f))
+not-after at other e = absurd (false≢true e)
 
--- those of which neither comes before the other are the same
-pub in-order : (at other : Failing) → AreAlike at other → comes_before at other ≡ false → comes_before other at ≡ false → at ≡ other
-in-order (Number m) (Number n) alike e f =
-    let most = ltb-false m n e in
-    let least = ltb-false n m f in
-    let same : m ≡ n = omega (arith, most, least) in
-    ap Number same
-in-order (Number m) (Pair i j) alike e f = absurd (true≢false e)
-in-order (Number m) (Every n) alike e f = absurd alike
-in-order (Number m) (From n) alike e f = absurd alike
-in-order (Every m) (Every n) alike e f =
-    let most = ltb-false m n e in
-    let least = ltb-false n m f in
-    let same : m ≡ n = omega (arith, most, least) in
-    ap Every same
-in-order (Every m) (Number n) alike e f = absurd alike
-in-order (Every m) (Pair i j) alike e f = absurd alike
-in-order (Every m) (From n) alike e f = absurd alike
-in-order (From m) (From n) alike e f =
-    let most = ltb-false m n e in
-    let least = ltb-false n m f in
-    let same : m ≡ n = omega (arith, most, least) in
-    ap From same
-in-order (From m) (Number n) alike e f = absurd alike
-in-order (From m) (Every n) alike e f = absurd alike
-in-order (From m) (Pair i j) alike e f = absurd alike
-in-order (Pair a b) (Number n) alike e f = absurd (true≢false f)
-in-order (Pair a b) (Every n) alike e f = absurd alike
-in-order (Pair a b) (From n) alike e f = absurd alike
-in-order (Pair a b) (Pair i j) alike e f = by (cases_order a i) (cases_order b j)
+same_number : (m n : ℕ) → nat_lt m n ≡ false → nat_lt n m ≡ false → m ≡ n
+same_number m n e f = let most = ltb-false m n e in let least = ltb-false n m f in omega (arith, most, least)
+
+same_pair : (a b i j : ℕ) → comes_before (Pair a b) (Pair i j) ≡ false → comes_before (Pair i j) (Pair a b) ≡ false → Pair a b ≡ Pair i j
+same_pair a b i j e f = by (cases_order a i) (cases_order b j)
   where
     not_less : ComesBefore a b i j → ⊥
     not_less before = true≢false (sym (pair_before a b i j before) ∙ e)
@@ -185,6 +111,16 @@ in-order (Pair a b) (Pair i j) alike e f = by (cases_order a i) (cases_order b j
     by (inl same) (inr (inl less)) = absurd (not_less (inr (same, less)))
     by (inl same) (inr (inr more)) = absurd (not_more (inr (sym same, more)))
     by (inl same) (inl too) = ap (λ n. Pair n b) same ∙ ap (Pair i) too
+
+-- those of which neither comes before the other are the same
+pub in-order : (at other : Failing) → AreAlike at other → comes_before at other ≡ false → comes_before other at ≡ false → at ≡ other
+in-order (Number m) (Number n) alike e f = ap Number (same_number m n e f)
+in-order (Every m) (Every n) alike e f = ap Every (same_number m n e f)
+in-order (From m) (From n) alike e f = ap From (same_number m n e f)
+in-order (Number m) (Pair i j) alike e f = absurd (true≢false e)
+in-order (Pair a b) (Number n) alike e f = absurd (true≢false f)
+in-order (Pair a b) (Pair i j) alike e f = same_pair a b i j e f
+in-order at other alike e f = absurd alike
 
 -- what comes before a failure comes before those after it
 pub before-later : (at middle other : Failing) → AreAlike at other → comes_before at middle ≡ true → comes_before middle other ≡ true → comes_before at other ≡ true

@@ -3,7 +3,7 @@ use Rattle.std.proofs.Common.{◌≡◌, ℕ, zero, suc, ◌<◌, ◌≤◌, ◌
 use Rattle.std.specs.Prelude.{◌↔◌, ◌||◌, ◌&&◌, nat_eq, nat_lt}
 use Rattle.std.proofs.lemmas.Bool.{le-ltb, lt-ltb}
 use Rattle.wb_runs.specs.declared.failures.Failing.{Failing}
-use Rattle.wb_runs.specs.declared.failures.Failing.TheVariants.{Number, Every, Pair, From}
+use Rattle.wb_runs.specs.declared.failures.Failing.TheVariants.{Number, Pair}
 use Rattle.wb_runs.specs.declared.failures.Failures.{Failures}
 use Rattle.wb_runs.specs.declared.failures.Failures.TheVariants.{Single, Pairs}
 use Rattle.wb_heap_model.specs.declared.heap.Shape.{Shape}
@@ -13,10 +13,10 @@ use Rattle.wb_meaning.specs.declared.run.Why.{Why}
 use Rattle.wb_tree.specs.declared.script.Script.{Script}
 use Rattle.wb_runs.specs.Parts.{comes_before, last_attempt, run_at, AreFineBefore, IsNoneIn, IsTried, IsUncut}
 use Rattle.wb_meaning.specs.Run.{is_bad}
-use Rattle.wb_runs.specs.SetAnswers.{set_of, IsSetOfCut, IsSetOfFound}
+use Rattle.wb_runs.specs.SetAnswers.{IsSetOfCut, IsSetOfFound}
 use Rattle.wb_runs.specs.SetParts.{AreSetsFineInBefore, IsNoSetIn, IsSetCutIn, IsSetFoundIn, IsSetOf}
 use Rattle.wb_runs.specs.Sets.{has_lesser_number, set_comes_before, set_run}
-use Rattle.wb_runs.specs.Sweeps.{failing_at, is_cut_outcome, is_fine, runs_of}
+use Rattle.wb_runs.specs.Sweeps.{failing_at, is_cut_outcome, is_fine, runs_of, set_of}
 use Rattle.wb_runs.proofs.SetLemmas.{none-fails, one-fails, two-fail}
 use Rattle.wb_runs.proofs.SetOrder.{before-by}
 
@@ -38,14 +38,10 @@ same_order part last (Number (suc m)) (Pair i j) is too = refl
 same_order part last (Pair a b) (Number zero) is too = refl
 same_order part last (Pair a b) (Number (suc n)) is too = refl
 same_order part last (Pair a b) (Pair i j) is too = ap (λ t. nat_lt a i || (nat_eq a i && t)) (or_none (nat_lt b j) (nat_eq b j))
-same_order part last (Every m) other is too = absurd is
-same_order part last (From m) other is too = absurd is
-same_order part last (Number zero) (Every n) is too = absurd too
-same_order part last (Number zero) (From n) is too = absurd too
-same_order part last (Number (suc m)) (Every n) is too = absurd too
-same_order part last (Number (suc m)) (From n) is too = absurd too
-same_order part last (Pair a b) (Every n) is too = absurd too
-same_order part last (Pair a b) (From n) is too = absurd too
+same_order part last (Number zero) other is too = absurd too
+same_order part last (Number (suc m)) other is too = absurd too
+same_order part last (Pair a b) other is too = absurd too
+same_order part last at other is too = absurd is
 
 -- ---- which sets the failures are that a sweep tries
 
@@ -53,8 +49,7 @@ set_is : (part : Part) (last : ℕ) (at : Failing) → IsTried Pairs part last a
 set_is part last (Number zero) is = record { set = tt; least = is }
 set_is part last (Number (suc n)) is = record { set = (omega arith, tt); least = is }
 set_is part last (Pair i j) is = record { set = (omega (arith, is.1), (is.2, tt)); least = is.0 }
-set_is part last (Every n) is = absurd is
-set_is part last (From n) is = absurd is
+set_is part last at is = absurd is
 
 -- the failures that a sweep tries, of those by pairs, are the sets of at most so many attempts
 pub record AreSetsOfAtMost (most : ℕ) (failures : Failures) : Type 0 where
@@ -69,16 +64,12 @@ single_sets = record { without = refl; in_pairs = in_pairs; few = few; from = fr
   where
     in_pairs : (part : Part) (last : ℕ) (at : Failing) → IsTried Single part last at → IsTried Pairs part last at
     in_pairs part last (Number n) is = is
-    in_pairs part last (Pair i j) is = absurd is
-    in_pairs part last (Every n) is = absurd is
-    in_pairs part last (From n) is = absurd is
+    in_pairs part last at is = absurd is
 
     few : (part : Part) (last : ℕ) (at : Failing) → IsTried Single part last at → length (set_of at) ≤ 1
     few part last (Number zero) is = omega arith
     few part last (Number (suc n)) is = omega arith
-    few part last (Pair i j) is = absurd is
-    few part last (Every n) is = absurd is
-    few part last (From n) is = absurd is
+    few part last at is = absurd is
 
     from : (part : Part) (last : ℕ) (numbers : List ℕ) → IsSetOf part last numbers → length numbers ≤ 1 →
         (at : Failing) × (numbers ≡ set_of at) × IsTried Single part last at
@@ -94,8 +85,7 @@ paired_sets = record { without = refl; in_pairs = λ part last at is. is; few = 
     few part last (Number zero) is = omega arith
     few part last (Number (suc n)) is = omega arith
     few part last (Pair i j) is = omega arith
-    few part last (Every n) is = absurd is
-    few part last (From n) is = absurd is
+    few part last at is = absurd is
 
     from : (part : Part) (last : ℕ) (numbers : List ℕ) → IsSetOf part last numbers → length numbers ≤ 2 →
         (at : Failing) × (numbers ≡ set_of at) × IsTried Pairs part last at
@@ -147,8 +137,7 @@ module _ (failures : Failures) (most : ℕ) (are : AreSetsOfAtMost most failures
       by (Number zero) is = none-fails script budget shape
       by (Number (suc n)) is = one-fails script budget shape (suc n)
       by (Pair i j) is = two-fail script budget shape i j
-      by (Every n) is = absurd is
-      by (From n) is = absurd is
+      by at is = absurd is
 
   order_is : (at other : Failing) → tried at → tried other → comes_before at other ≡ set_comes_before (set_of at) (set_of other)
   order_is at other is too = same_order part last at other (are.in_pairs part last at is) (are.in_pairs part last other too)

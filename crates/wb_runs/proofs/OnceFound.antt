@@ -34,11 +34,13 @@ bad-unfine told = fine_or_bad (is_bad told) (not (is_cut_outcome told.outcome))
 pub cut-unfine : (told : RunResult) (why : Why) → told.outcome ≡ Cut why → is_fine told ≡ true → ⊥
 cut-unfine told why cut = fine_or_cut (is_bad told) (is_cut_outcome told.outcome) (ap is_cut_outcome cut)
 
-bad_or_cut : (outcome : Outcome) (why : Why) → is_bad_outcome outcome ≡ true → outcome ≡ Cut why → ⊥
-bad_or_cut outcome why bad cut = let no : is_bad_outcome outcome ≡ false = ap is_bad_outcome cut in cc
+-- a run isn't bad and cut
+pub bad-or-cut : (outcome : Outcome) (why : Why) → is_bad_outcome outcome ≡ true → outcome ≡ Cut why → ⊥
+bad-or-cut outcome why bad cut = let no : is_bad_outcome outcome ≡ false = ap is_bad_outcome cut in cc
 
-one_why : (a b : Why) (outcome : Outcome) → outcome ≡ Cut a → outcome ≡ Cut b → a ≡ b
-one_why a b outcome e f = cc
+-- a run is cut in one way
+pub one-why : (a b : Why) (outcome : Outcome) → outcome ≡ Cut a → outcome ≡ Cut b → a ≡ b
+one-why a b outcome e f = cc
 
 -- ---- failures that are tried as 0, 1, 2 and so on
 
@@ -78,12 +80,12 @@ module _ (script : Script) (budget : ℕ) (shape : Shape) where
         (at ≡ at') × (why ≡ why')
     cut_once at at' why why' (m, e, is) (n, f, is') =
         let same = one_unfine runs m n (cut-unfine (runs m) why is.cut) (cut-unfine (runs n) why' is'.cut) is.least is'.least in
-        (e ∙ ap tried same ∙ sym f, one_why why why' (runs n).outcome (subst (λ k. (runs k).outcome ≡ Cut why) same is.cut) is'.cut)
+        (e ∙ ap tried same ∙ sym f, one-why why why' (runs n).outcome (subst (λ k. (runs k).outcome ≡ Cut why) same is.cut) is'.cut)
 
     found_uncut : (at at' : Failing) (r : RunResult) (why : Why) → IsFoundAmong tried script budget shape at r → IsCutAmong tried script budget shape at' why → ⊥
     found_uncut at at' r why (m, e, is) (n, f, is') =
         let same = one_unfine runs m n (bad-unfine (runs m) is.bad) (cut-unfine (runs n) why is'.cut) is.least is'.least in
-        bad_or_cut (runs n).outcome why (subst (λ k. is_bad (runs k) ≡ true) same is.bad) is'.cut
+        bad-or-cut (runs n).outcome why (subst (λ k. is_bad (runs k) ≡ true) same is.bad) is'.cut
 
     found_unfine : (at : Failing) (r : RunResult) → IsFoundAmong tried script budget shape at r → AreAllFine runs → ⊥
     found_unfine at r (n, e, is) fine = bad-unfine (runs n) is.bad (fine n)
@@ -105,13 +107,13 @@ module _ (script : Script) (budget : ℕ) (shape : Shape) where
   cut_pair_once at at' why why' (i, j, e, is) (k, l, f, is') =
       let (first, second) = one_pair pairs i j k l is.counted is.later is'.counted is'.later (cut-unfine (pairs i j) why is.cut) (cut-unfine (pairs k l) why' is'.cut) is.least is'.least in
       let run = ap (λ n. pairs n j) first ∙ ap (pairs k) second in
-      (e ∙ ap (λ n. Pair n j) first ∙ ap (Pair k) second ∙ sym f, one_why why why' (pairs k l).outcome (ap (λ x. x.outcome) (sym run) ∙ is.cut) is'.cut)
+      (e ∙ ap (λ n. Pair n j) first ∙ ap (Pair k) second ∙ sym f, one-why why why' (pairs k l).outcome (ap (λ x. x.outcome) (sym run) ∙ is.cut) is'.cut)
 
   found_pair_uncut : (at at' : Failing) (r : RunResult) (why : Why) → IsFoundPair script budget shape at r → IsCutPair script budget shape at' why → ⊥
   found_pair_uncut at at' r why (i, j, e, is) (k, l, f, is') =
       let (first, second) = one_pair pairs i j k l is.counted is.later is'.counted is'.later (bad-unfine (pairs i j) is.bad) (cut-unfine (pairs k l) why is'.cut) is.least is'.least in
       let run = ap (λ n. pairs n j) first ∙ ap (pairs k) second in
-      bad_or_cut (pairs k l).outcome why (ap is_bad (sym run) ∙ is.bad) is'.cut
+      bad-or-cut (pairs k l).outcome why (ap is_bad (sym run) ∙ is.bad) is'.cut
 
   -- ---- by the kind of failures
 

@@ -5,20 +5,15 @@ use Rattle.wb_runs.specs.declared.failures.Failing.{Failing}
 use Rattle.wb_runs.specs.declared.failures.Failures.{Failures}
 use Rattle.wb_heap_model.specs.declared.heap.Shape.{Shape}
 use Rattle.wb_runs.specs.declared.part.Part.{Part}
-use Rattle.wb_meaning.specs.declared.run.Outcome.{Outcome}
 use Rattle.wb_meaning.specs.declared.run.Outcome.TheVariants.{Cut}
 use Rattle.wb_meaning.specs.declared.run.RunResult.{RunResult}
 use Rattle.wb_meaning.specs.declared.run.Why.{Why}
 use Rattle.wb_tree.specs.declared.script.Script.{Script}
 use Rattle.wb_runs.specs.Parts.{comes_before, last_attempt, run_at, Answer, found, cut, none, AreFineBefore, IsAnswerIn, IsCutWithout, IsTried, IsUncut}
-use Rattle.wb_meaning.specs.Run.{is_bad, is_bad_outcome}
+use Rattle.wb_meaning.specs.Run.{is_bad}
 use Rattle.wb_runs.specs.Sweeps.{is_cut_outcome, is_fine}
 use Rattle.wb_runs.proofs.FailureOrder.{in-order, tried-alike}
-use Rattle.wb_runs.proofs.OnceFound.{bad-unfine, cut-unfine}
-use Rattle.wb_runs.proofs.PartAnswers.{bad_is_uncut}
-
-one_why : (a b : Why) (outcome : Outcome) → outcome ≡ Cut a → outcome ≡ Cut b → a ≡ b
-one_why a b outcome e f = cc
+use Rattle.wb_runs.proofs.OnceFound.{bad-or-cut, bad-unfine, cut-unfine, one-why}
 
 module _ (failures : Failures) (part : Part) (script : Script) (budget : ℕ) (shape : Shape) where
   abbrev last : ℕ
@@ -37,9 +32,6 @@ module _ (failures : Failures) (part : Part) (script : Script) (budget : ℕ) (s
       by false e true f = absurd (there (least other too f))
       by false e false f = in-order at other (tried-alike failures part part last at other tried too) e f
 
-  bad_or_cut : (why : Why) (outcome : Outcome) → is_bad_outcome outcome ≡ true → outcome ≡ Cut why → ⊥
-  bad_or_cut why outcome bad is = false≢true (sym (bad_is_uncut outcome bad) ∙ ap is_cut_outcome is)
-
   never : {A : Type 0} (at : Failing) (why : Why) → IsUncut failures script budget shape → IsCutWithout failures script budget shape at why → A
   never at why uncut is = absurd (false≢true (sym uncut ∙ ap is_cut_outcome is.cut))
 
@@ -57,19 +49,19 @@ module _ (failures : Failures) (part : Part) (script : Script) (budget : ℕ) (s
   once (found at result) (cut other another) x (inl y) = never other another x.uncut y
   once (found at result) (cut other another) x (inr y) =
       let same = one_failure at other x.tried y.tried (bad-unfine (told at) x.bad) (cut-unfine (told other) another y.cut) x.least y.least in
-      absurd (bad_or_cut another (told other).outcome (subst (λ f. is_bad (told f) ≡ true) same x.bad) y.cut)
+      absurd (bad-or-cut (told other).outcome another (subst (λ f. is_bad (told f) ≡ true) same x.bad) y.cut)
   once (cut at why) (found other another) (inl x) y = never at why y.uncut x
   once (cut at why) (found other another) (inr x) y =
       let same = one_failure at other x.tried y.tried (cut-unfine (told at) why x.cut) (bad-unfine (told other) y.bad) x.least y.least in
-      absurd (bad_or_cut why (told other).outcome y.bad (subst (λ f. (told f).outcome ≡ Cut why) same x.cut))
+      absurd (bad-or-cut (told other).outcome why y.bad (subst (λ f. (told f).outcome ≡ Cut why) same x.cut))
   once (cut at why) (cut other another) (inl x) (inl y) =
       let same = x.failing ∙ sym y.failing in
-      ap (λ w. cut at w) (one_why why another _ x.cut y.cut) ∙ ap (λ f. cut f another) same
+      ap (λ w. cut at w) (one-why why another _ x.cut y.cut) ∙ ap (λ f. cut f another) same
   once (cut at why) (cut other another) (inl x) (inr y) = never at why y.uncut x
   once (cut at why) (cut other another) (inr x) (inl y) = never other another x.uncut y
   once (cut at why) (cut other another) (inr x) (inr y) =
       let same = one_failure at other x.tried y.tried (cut-unfine (told at) why x.cut) (cut-unfine (told other) another y.cut) x.least y.least in
-      ap (λ w. cut at w) (one_why why another (told other).outcome (subst (λ f. (told f).outcome ≡ Cut why) same x.cut) y.cut) ∙ ap (λ f. cut f another) same
+      ap (λ w. cut at w) (one-why why another (told other).outcome (subst (λ f. (told f).outcome ≡ Cut why) same x.cut) y.cut) ∙ ap (λ f. cut f another) same
 
 pub once-of-part : (failures : Failures) (part : Part) (script : Script) (budget : ℕ) (shape : Shape) (answer another : Answer) →
     IsAnswerIn failures part script budget shape answer → IsAnswerIn failures part script budget shape another → answer ≡ another

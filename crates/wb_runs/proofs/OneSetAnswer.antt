@@ -4,24 +4,19 @@ use Rattle.std.proofs.lemmas.Bool.{false≢true}
 use Rattle.wb_runs.specs.declared.failures.Failures.TheVariants.{Single}
 use Rattle.wb_heap_model.specs.declared.heap.Shape.{Shape}
 use Rattle.wb_runs.specs.declared.part.Part.{Part}
-use Rattle.wb_meaning.specs.declared.run.Outcome.{Outcome}
 use Rattle.wb_meaning.specs.declared.run.Outcome.TheVariants.{Cut}
 use Rattle.wb_meaning.specs.declared.run.RunResult.{RunResult}
 use Rattle.wb_meaning.specs.declared.run.Why.{Why}
 use Rattle.wb_tree.specs.declared.script.Script.{Script}
 use Rattle.wb_runs.specs.Parts.{last_attempt, IsUncut}
-use Rattle.wb_meaning.specs.Run.{is_bad, is_bad_outcome}
+use Rattle.wb_meaning.specs.Run.{is_bad}
 use Rattle.wb_runs.specs.SetAnswers.{SetAnswer, found, cut, none, IsSetAnswerIn}
 use Rattle.wb_runs.specs.SetParts.{AreSetsFineInBefore, IsCutWithoutSet, IsSetOf}
 use Rattle.wb_runs.specs.Sets.{set_comes_before, set_run}
 use Rattle.wb_runs.specs.Sweeps.{is_cut_outcome, is_fine}
-use Rattle.wb_runs.proofs.OnceFound.{bad-unfine, cut-unfine}
-use Rattle.wb_runs.proofs.PartAnswers.{bad_is_uncut}
+use Rattle.wb_runs.proofs.OnceFound.{bad-or-cut, bad-unfine, cut-unfine, one-why}
 use Rattle.wb_runs.proofs.SetLemmas.{none-fails}
 use Rattle.wb_runs.proofs.SetOrder.{set-in-order}
-
-one_why : (a b : Why) (outcome : Outcome) → outcome ≡ Cut a → outcome ≡ Cut b → a ≡ b
-one_why a b outcome e f = cc
 
 -- the run without failure isn't cut in one way and uncut in another
 pub never-cut : {A : Type 0} (script : Script) (budget : ℕ) (shape : Shape) (numbers : List ℕ) (why : Why) → IsUncut Single script budget shape →
@@ -46,9 +41,6 @@ module _ (part : Part) (most : ℕ) (script : Script) (budget : ℕ) (shape : Sh
       by false e true f = absurd (there (least other too f))
       by false e false f = set-in-order numbers other e f
 
-  bad_or_cut : (why : Why) (outcome : Outcome) → is_bad_outcome outcome ≡ true → outcome ≡ Cut why → ⊥
-  bad_or_cut why outcome bad is = false≢true (sym (bad_is_uncut outcome bad) ∙ ap is_cut_outcome is)
-
   once : (answer another : SetAnswer) → IsSetAnswerIn part most script budget shape answer → IsSetAnswerIn part most script budget shape another → answer ≡ another
   once none none x y = refl
   once none (found other another) x y = absurd (bad-unfine (told other) y.bad (x.fine other y.tried y.few))
@@ -63,19 +55,19 @@ module _ (part : Part) (most : ℕ) (script : Script) (budget : ℕ) (shape : Sh
   once (found numbers result) (cut other another) x (inl y) = never-cut script budget shape other another x.uncut y
   once (found numbers result) (cut other another) x (inr y) =
       let same = one_set numbers other x.tried y.tried (bad-unfine (told numbers) x.bad) (cut-unfine (told other) another y.cut) x.least y.least in
-      absurd (bad_or_cut another (told other).outcome (subst (λ ns. is_bad (told ns) ≡ true) same x.bad) y.cut)
+      absurd (bad-or-cut (told other).outcome another (subst (λ ns. is_bad (told ns) ≡ true) same x.bad) y.cut)
   once (cut numbers why) (found other another) (inl x) y = never-cut script budget shape numbers why y.uncut x
   once (cut numbers why) (found other another) (inr x) y =
       let same = one_set numbers other x.tried y.tried (cut-unfine (told numbers) why x.cut) (bad-unfine (told other) y.bad) x.least y.least in
-      absurd (bad_or_cut why (told other).outcome y.bad (subst (λ ns. (told ns).outcome ≡ Cut why) same x.cut))
+      absurd (bad-or-cut (told other).outcome why y.bad (subst (λ ns. (told ns).outcome ≡ Cut why) same x.cut))
   once (cut numbers why) (cut other another) (inl x) (inl y) =
       let same = x.empty ∙ sym y.empty in
-      ap (λ w. cut numbers w) (one_why why another _ x.cut y.cut) ∙ ap (λ ns. cut ns another) same
+      ap (λ w. cut numbers w) (one-why why another _ x.cut y.cut) ∙ ap (λ ns. cut ns another) same
   once (cut numbers why) (cut other another) (inl x) (inr y) = never-cut script budget shape numbers why y.uncut x
   once (cut numbers why) (cut other another) (inr x) (inl y) = never-cut script budget shape other another x.uncut y
   once (cut numbers why) (cut other another) (inr x) (inr y) =
       let same = one_set numbers other x.tried y.tried (cut-unfine (told numbers) why x.cut) (cut-unfine (told other) another y.cut) x.least y.least in
-      ap (λ w. cut numbers w) (one_why why another (told other).outcome (subst (λ ns. (told ns).outcome ≡ Cut why) same x.cut) y.cut)
+      ap (λ w. cut numbers w) (one-why why another (told other).outcome (subst (λ ns. (told ns).outcome ≡ Cut why) same x.cut) y.cut)
       ∙ ap (λ ns. cut ns another) same
 
 pub once-of-sets : (part : Part) (most : ℕ) (script : Script) (budget : ℕ) (shape : Shape) (answer another : SetAnswer) →

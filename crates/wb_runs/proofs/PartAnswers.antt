@@ -74,21 +74,14 @@ before_pair a b i j e = by (nat_lt a i) refl e
 pub before-number : (failures : Failures) (part : Part) (script : Script) (budget : ℕ) (shape : Shape) (n : ℕ) →
     ((m : ℕ) → part.from ≤ m → m < n → is_fine (runs_of failures script budget shape m) ≡ true) → AreFineBefore failures part script budget shape (failing_at failures n)
 before-number Single part script budget shape n below (Number m) tried e = below m tried.from (ltb-true m n e)
-before-number Single part script budget shape n below (failings.Every m) tried e = absurd tried
-before-number Single part script budget shape n below (failings.From m) tried e = absurd tried
-before-number Single part script budget shape n below (Pair i j) tried e = absurd tried
+before-number Single part script budget shape n below at tried e = absurd tried
 before-number Every part script budget shape n below (failings.Every m) tried e = below m tried.from (ltb-true m n e)
 before-number Persistent part script budget shape n below (failings.From m) tried e = below m tried.from (ltb-true m n e)
-before-number Every part script budget shape n below (Number m) tried e = absurd tried
-before-number Every part script budget shape n below (failings.From m) tried e = absurd tried
-before-number Persistent part script budget shape n below (Number m) tried e = absurd tried
-before-number Persistent part script budget shape n below (failings.Every m) tried e = absurd tried
-before-number Every part script budget shape n below (Pair i j) tried e = absurd tried
-before-number Persistent part script budget shape n below (Pair i j) tried e = absurd tried
+before-number Every part script budget shape n below at tried e = absurd tried
+before-number Persistent part script budget shape n below at tried e = absurd tried
 before-number Pairs part script budget shape n below (Number m) tried e = below m tried.from (ltb-true m n e)
-before-number Pairs part script budget shape n below (failings.Every m) tried e = absurd tried
-before-number Pairs part script budget shape n below (failings.From m) tried e = absurd tried
 before-number Pairs part script budget shape n below (Pair i j) tried e = absurd (false≢true e)
+before-number Pairs part script budget shape n below at tried e = absurd tried
 
 -- what is tried before a pair is a number of the part, or a pair that comes before
 pub before-pair : (part : Part) (script : Script) (budget : ℕ) (shape : Shape) (i j : ℕ) →
@@ -98,6 +91,7 @@ pub before-pair : (part : Part) (script : Script) (budget : ℕ) (shape : Shape)
 before-pair part script budget shape i j fine least (Number m) tried e = fine m tried
 before-pair part script budget shape i j fine least (failings.Every m) tried e = absurd tried
 before-pair part script budget shape i j fine least (failings.From m) tried e = absurd tried
+before-pair part script budget shape i j fine least (failings.Set numbers) tried e = absurd tried
 before-pair part script budget shape i j fine least (Pair a b) tried e = least a b tried.0.from tried.1 tried.2 (before_pair a b i j e)
 
 -- ---- the numbers of a whole part
@@ -170,20 +164,15 @@ module _ (part : Part) (script : Script) (budget : ℕ) (shape : Shape) (start :
   found-all : (failures : Failures) → last_attempt failures script budget shape ≤ part.to → (at : Failing) (result : RunResult) →
       IsFoundIn failures part script budget shape at result → IsFound failures script budget shape at result
   found-all Single within (Number n) result is = (n, refl, record { bad = is.bad; least = below_of Single within n is.tried.made is.least; run_is = is.run_is })
-  found-all Single within (failings.Every n) result is = absurd is.tried
-  found-all Single within (failings.From n) result is = absurd is.tried
-  found-all Single within (Pair i j) result is = absurd is.tried
+  found-all Single within at result is = absurd is.tried
   found-all Every within (failings.Every n) result is = (n, refl, record { bad = is.bad; least = below_of Every within n is.tried.made is.least; run_is = is.run_is })
   found-all Persistent within (failings.From n) result is = (n, refl, record { bad = is.bad; least = below_of Persistent within n is.tried.made is.least; run_is = is.run_is })
-  found-all Every within (Number n) result is = absurd is.tried
-  found-all Every within (failings.From n) result is = absurd is.tried
-  found-all Persistent within (Number n) result is = absurd is.tried
-  found-all Persistent within (failings.Every n) result is = absurd is.tried
-  found-all Every within (Pair i j) result is = absurd is.tried
-  found-all Persistent within (Pair i j) result is = absurd is.tried
+  found-all Every within at result is = absurd is.tried
+  found-all Persistent within at result is = absurd is.tried
   found-all Pairs within (Number n) result is = inl (n, refl, record { bad = is.bad; least = below_of Pairs within n is.tried.made is.least; run_is = is.run_is })
   found-all Pairs within (failings.Every n) result is = absurd is.tried
   found-all Pairs within (failings.From n) result is = absurd is.tried
+  found-all Pairs within (failings.Set numbers) result is = absurd is.tried
   found-all Pairs within (Pair i j) result is = inr (
     i,
     j,
@@ -246,20 +235,15 @@ module _ (part : Part) (script : Script) (budget : ℕ) (shape : Shape) (start :
   cut-all Persistent within at why (inl is) = cut_without Persistent at why is
   cut-all Pairs within at why (inl is) = inl (cut_without Pairs at why is)
   cut-all Single within (Number n) why (inr is) = (n, refl, record { cut = is.cut; least = below_of Single within n is.tried.made is.least })
-  cut-all Single within (failings.Every n) why (inr is) = absurd is.tried
-  cut-all Single within (failings.From n) why (inr is) = absurd is.tried
-  cut-all Single within (Pair i j) why (inr is) = absurd is.tried
+  cut-all Single within at why (inr is) = absurd is.tried
   cut-all Every within (failings.Every n) why (inr is) = (n, refl, record { cut = is.cut; least = below_of Every within n is.tried.made is.least })
   cut-all Persistent within (failings.From n) why (inr is) = (n, refl, record { cut = is.cut; least = below_of Persistent within n is.tried.made is.least })
-  cut-all Every within (Number n) why (inr is) = absurd is.tried
-  cut-all Every within (failings.From n) why (inr is) = absurd is.tried
-  cut-all Persistent within (Number n) why (inr is) = absurd is.tried
-  cut-all Persistent within (failings.Every n) why (inr is) = absurd is.tried
-  cut-all Every within (Pair i j) why (inr is) = absurd is.tried
-  cut-all Persistent within (Pair i j) why (inr is) = absurd is.tried
+  cut-all Every within at why (inr is) = absurd is.tried
+  cut-all Persistent within at why (inr is) = absurd is.tried
   cut-all Pairs within (Number n) why (inr is) = inl (n, refl, record { cut = is.cut; least = below_of Pairs within n is.tried.made is.least })
   cut-all Pairs within (failings.Every n) why (inr is) = absurd is.tried
   cut-all Pairs within (failings.From n) why (inr is) = absurd is.tried
+  cut-all Pairs within (failings.Set numbers) why (inr is) = absurd is.tried
   cut-all Pairs within (Pair i j) why (inr is) = inr (
     i,
     j,
@@ -301,20 +285,15 @@ module _ (part : Part) (script : Script) (budget : ℕ) (shape : Shape) (start :
   fine_at : (failures : Failures) → IsNoneFound failures script budget shape → (last : ℕ) (at : Failing) → IsTried failures part last at →
       is_fine (run_at script budget shape at) ≡ true
   fine_at Single fine last (Number n) tried = fine n
-  fine_at Single fine last (failings.Every n) tried = absurd tried
-  fine_at Single fine last (failings.From n) tried = absurd tried
-  fine_at Single fine last (Pair i j) tried = absurd tried
+  fine_at Single fine last at tried = absurd tried
   fine_at Every fine last (failings.Every n) tried = fine n
   fine_at Persistent fine last (failings.From n) tried = fine n
-  fine_at Every fine last (Number n) tried = absurd tried
-  fine_at Every fine last (failings.From n) tried = absurd tried
-  fine_at Persistent fine last (Number n) tried = absurd tried
-  fine_at Persistent fine last (failings.Every n) tried = absurd tried
-  fine_at Every fine last (Pair i j) tried = absurd tried
-  fine_at Persistent fine last (Pair i j) tried = absurd tried
+  fine_at Every fine last at tried = absurd tried
+  fine_at Persistent fine last at tried = absurd tried
   fine_at Pairs fine last (Number n) tried = fine.0 n
   fine_at Pairs fine last (failings.Every n) tried = absurd tried
   fine_at Pairs fine last (failings.From n) tried = absurd tried
+  fine_at Pairs fine last (failings.Set numbers) tried = absurd tried
   fine_at Pairs fine last (Pair i j) tried = fine.1 i j tried.1 tried.2
 
   fine_without : (failures : Failures) → IsNoneFound failures script budget shape → is_fine (runs_of failures script budget shape 0) ≡ true

@@ -47,43 +47,29 @@ module _ (part next both : Part) (is : AreTogether part next both) (last : ℕ) 
 
   tried_left : (failures : Failures) (at : Failing) → IsTried failures part last at → IsTried failures both last at
   tried_left kinds.Single (Number n) tried = number_left n tried
-  tried_left kinds.Single (Every n) tried = absurd tried
-  tried_left kinds.Single (From n) tried = absurd tried
-  tried_left kinds.Single (Pair i j) tried = absurd tried
+  tried_left kinds.Single at tried = absurd tried
   tried_left kinds.Every (Every n) tried = number_left n tried
   tried_left kinds.Persistent (From n) tried = number_left n tried
-  tried_left kinds.Every (Number n) tried = absurd tried
-  tried_left kinds.Every (From n) tried = absurd tried
-  tried_left kinds.Persistent (Number n) tried = absurd tried
-  tried_left kinds.Persistent (Every n) tried = absurd tried
-  tried_left kinds.Every (Pair i j) tried = absurd tried
-  tried_left kinds.Persistent (Pair i j) tried = absurd tried
+  tried_left kinds.Every at tried = absurd tried
+  tried_left kinds.Persistent at tried = absurd tried
   tried_left kinds.Pairs (Number n) tried = number_left n tried
   tried_left kinds.Pairs (Pair i j) tried = (number_left i tried.0, tried.1, tried.2)
-  tried_left kinds.Pairs (Every n) tried = absurd tried
-  tried_left kinds.Pairs (From n) tried = absurd tried
+  tried_left kinds.Pairs at tried = absurd tried
 
   tried_either : (failures : Failures) (at : Failing) → IsTried failures both last at → IsTried failures part last at ⊎ IsTried failures next last at
   tried_either kinds.Single (Number n) tried = number_either n tried
-  tried_either kinds.Single (Every n) tried = absurd tried
-  tried_either kinds.Single (From n) tried = absurd tried
-  tried_either kinds.Single (Pair i j) tried = absurd tried
+  tried_either kinds.Single at tried = absurd tried
   tried_either kinds.Every (Every n) tried = number_either n tried
   tried_either kinds.Persistent (From n) tried = number_either n tried
-  tried_either kinds.Every (Number n) tried = absurd tried
-  tried_either kinds.Every (From n) tried = absurd tried
-  tried_either kinds.Persistent (Number n) tried = absurd tried
-  tried_either kinds.Persistent (Every n) tried = absurd tried
-  tried_either kinds.Every (Pair i j) tried = absurd tried
-  tried_either kinds.Persistent (Pair i j) tried = absurd tried
+  tried_either kinds.Every at tried = absurd tried
+  tried_either kinds.Persistent at tried = absurd tried
   tried_either kinds.Pairs (Number n) tried = number_either n tried
   tried_either kinds.Pairs (Pair i j) tried = by (number_either i tried.0)
     where
       by : IsNumberOf part last i ⊎ IsNumberOf next last i → IsTried kinds.Pairs part last (Pair i j) ⊎ IsTried kinds.Pairs next last (Pair i j)
       by (inl within) = inl (within, tried.1, tried.2)
       by (inr within) = inr (within, tried.1, tried.2)
-  tried_either kinds.Pairs (Every n) tried = absurd tried
-  tried_either kinds.Pairs (From n) tried = absurd tried
+  tried_either kinds.Pairs at tried = absurd tried
 
 -- ---- what is fine of both
 

@@ -1,7 +1,6 @@
--- What a sweep over the sets of a part comes to, as one value, and which sets the failures of other sweeps are.
-use Rattle.std.specs.Prelude.{◌≡◌, ℕ, zero, suc, List, [], ◌∷◌, if◌then◌else◌}
+-- What a sweep over the sets of a part comes to, as one value, and which sets the failures that other sweeps find are.
+use Rattle.std.specs.Prelude.{◌≡◌, ℕ, List, if◌then◌else◌}
 use Rattle.wb_runs.specs.declared.failures.Failing.{Failing}
-use Rattle.wb_runs.specs.declared.failures.Failing.TheVariants.{Number, Every, Pair, From}
 use Rattle.wb_runs.specs.declared.failures.Failures.{Failures}
 use Rattle.wb_heap_model.specs.declared.heap.Shape.{Shape}
 use Rattle.wb_runs.specs.declared.part.Part.{Part}
@@ -11,6 +10,7 @@ use Rattle.wb_tree.specs.declared.script.Script.{Script}
 use Rattle.wb_runs.specs.Parts.{IsCutIn, IsFoundIn}
 use Rattle.wb_runs.specs.SetParts.{IsNoSetIn, IsSetCutIn, IsSetFoundIn}
 use Rattle.wb_runs.specs.Sets.{set_comes_before}
+use Rattle.wb_runs.specs.Sweeps.{set_of}
 
 -- what a sweep over the sets of a part comes to
 pub data SetAnswer : Type 0 where
@@ -38,14 +38,6 @@ least_set_of (cut numbers why) (found other another) = first_set_of numbers othe
 least_set_of (cut numbers why) (cut other another) = first_set_of numbers other (cut numbers why) (cut other another)
 
 -- ---- single failures and pairs
-
--- the attempts that fail, none by number 0; it isn't asked of a rate, nor of all from a number on
-abbrev pub set_of : Failing → List ℕ
-set_of (Number zero) = []
-set_of (Number (suc n)) = suc n ∷ []
-set_of (Pair i j) = i ∷ j ∷ []
-set_of (Every n) = []
-set_of (From n) = []
 
 -- the set is that of a failure which a sweep over a part finds
 abbrev pub IsSetOfFound : Failures → Part → Script → ℕ → Shape → List ℕ → RunResult → Type 0

@@ -1,5 +1,5 @@
 -- What a sweep looks for among runs that are numbered from 0 on.
-use Rattle.std.specs.Prelude.{◌≡◌, ℕ, zero, suc, ◌<◌, Bool, true, false, not, ◌&&◌, if◌then◌else◌, length, Option, Some, None}
+use Rattle.std.specs.Prelude.{◌≡◌, ℕ, zero, suc, ◌<◌, List, [], ◌∷◌, Bool, true, false, not, ◌&&◌, if◌then◌else◌, length, Option, Some, None}
 use Rattle.wb_runs.specs.declared.failures.Failing.{Failing}
 use Rattle.wb_runs.specs.declared.failures.Failing.TheVariants.{Number, Pair}
 use Rattle.wb_runs.specs.declared.failures.Failing.TheVariants as failings
@@ -56,6 +56,25 @@ rule_for (Number n) = rules.Number n
 rule_for (failings.Every n) = rules.Every n
 rule_for (Pair i j) = rules.Pair i j
 rule_for (failings.From n) = rules.From n
+rule_for (failings.Set numbers) = rules.Set numbers
+
+-- the numbers of the attempts that a failure makes fail, none by number 0; it isn't asked of a rate, nor of all from a number on
+abbrev pub set_of : Failing → List ℕ
+set_of (Number zero) = []
+set_of (Number (suc n)) = suc n ∷ []
+set_of (failings.Every n) = []
+set_of (Pair i j) = i ∷ j ∷ []
+set_of (failings.From n) = []
+set_of (failings.Set numbers) = numbers
+
+-- the failure of a set, as a sweep over sets names it: no attempt and a single one by their number, two and more by the set
+abbrev pub failing_set : List ℕ → Failing
+failing_set [] = Number 0
+failing_set (n ∷ []) = Number n
+failing_set (m ∷ n ∷ ns) = failings.Set (m ∷ n ∷ ns)
+
+abbrev pub IsNamedAsSet : Failing → Type 0
+IsNamedAsSet at = at ≡ failing_set (set_of at)
 
 -- the runs under failures that are tried as 0, 1, 2 and so on
 abbrev pub runs_under : (ℕ → Failing) → Script → ℕ → Shape → ℕ → RunResult

@@ -1,9 +1,10 @@
-//! Which failures a sweep tries, and how it names a single failure.
+//! What fails: which failures a sweep tries, and the one type that says which attempts fail.
 
-ghost use Rattle.std.specs.Prelude.{◌≡◌};
+ghost use Rattle.std.specs.Prelude.{◌≡◌, IfOk};
 ghost use Rattle.wb_runs.specs.Sweeps.{failing_at, rule_for};
 
-use wb_heap_model::heap::Rule;
+use wb_basics::memory::NoMemory;
+use wb_heap_model::heap::{Numbers, Rule};
 
 /// Which failures a sweep tries one by one, the least first. Source: this project's profile.
 #[derive(Clone, Copy, Debug, PartialEq, Eq)]
@@ -33,7 +34,7 @@ impl Failures {
 }
 
 /// A failure: which attempts the rule of a run makes fail.
-#[derive(Clone, Copy, Debug, PartialEq, Eq)]
+#[derive(Debug, Drop)]
 pub enum Failing {
     /// The attempt with this number fails. Attempts count from 1, so with number 0 no attempt fails.
     Number(u32),
@@ -43,9 +44,25 @@ pub enum Failing {
     Pair(u32, u32),
     /// The attempt with this number and all later attempts fail; with number 0 no attempt fails.
     From(u32),
+    /// The attempts with these numbers fail. The numbers ascend.
+    Set(Numbers),
 }
 
 impl Failing {
+    /// Returns a copy of the failure; the copy of a `Set` has its numbers in newly allocated memory. Returns `NoMemory` if the workbench's
+    /// memory runs out.
+    pub fn try_copy(&self) -> Result<Failing, NoMemory>
+        ensures { IfOk result (λ copy. copy ≡ self.now) }
+    {
+        Ok(match self {
+            Failing::Number(number) => Failing::Number(*number),
+            Failing::Every(rate) => Failing::Every(*rate),
+            Failing::Pair(first, second) => Failing::Pair(*first, *second),
+            Failing::From(first) => Failing::From(*first),
+            Failing::Set(numbers) => Failing::Set(numbers.try_copy()?),
+        })
+    }
+
     /// Returns the rule that makes exactly the attempts of this failure fail.
     pub fn rule(self) -> Rule
         ensures { result ≡ rule_for self }
@@ -55,6 +72,7 @@ impl Failing {
             Failing::Every(rate) => Rule::Every(rate),
             Failing::Pair(first, second) => Rule::Pair(first, second),
             Failing::From(first) => Rule::From(first),
+            Failing::Set(numbers) => Rule::Set(numbers),
         }
     }
 }

@@ -47,7 +47,7 @@ pub trait Progress: StepProgress {
     fn begin_failures(&mut self, first: u32, last: u32);
 
     /// The run under this failure begins. The method is called once for each failure that is tried.
-    fn begin_failure(&mut self, at: Failing);
+    fn begin_failure(&mut self, at: &Failing);
 
     /// No set of fewer than `many` attempts shows anything, and runs under sets of `many` attempts follow. The method is called with 2, 3
     /// and so on. If a search over states is given up, the method is called again with the same `many`. From then on, the sets are tried
@@ -79,7 +79,7 @@ impl Progress for Silent {
 
     fn begin_failures(&mut self, _first: u32, _last: u32) {}
 
-    fn begin_failure(&mut self, _at: Failing) {}
+    fn begin_failure(&mut self, _at: &Failing) {}
 
     fn begin_sets(&mut self, _many: u32) {}
 

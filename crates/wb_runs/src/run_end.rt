@@ -60,9 +60,6 @@ impl RunEnd {
 pub fn is_fine(outcome: &Outcome) -> bool
     ensures { result ≡ (not (is_bad_outcome outcome.now) && not (is_cut_outcome outcome.now)) }
 {
-    match outcome {
-        Outcome::Ended { leaks, .. } => leaks.len() == 0,
-        Outcome::Panicked(_) | Outcome::Cut(_) => false,
-        Outcome::NoCleanup => true,
-    }
+    let end = RunEnd::of(outcome);
+    !end.is_bad() && !end.is_cut()
 }

@@ -39,8 +39,6 @@ use Rattle.wb_script.specs.declared.tree.blocks.Head.{Head}
 use Rattle.wb_script.specs.declared.tree.blocks.Head.TheVariants as head
 use Rattle.wb_script.specs.declared.tree.blocks.OpenBlock.{OpenBlock}
 use Rattle.wb_script.specs.declared.tree.blocks.BlockStack.{BlockStack}
-use Rattle.wb_script.specs.declared.tree.blocks.Enclosing.{Enclosing}
-use Rattle.wb_script.specs.declared.tree.blocks.Enclosing.TheVariants as around
 use Rattle.wb_script.specs.Fitting.{operands_fit}
 use Rattle.wb_nesting.specs.Machine.{step}
 
@@ -286,11 +284,6 @@ pub record ClosesBlock (block_stack next : BlockStack) : Type 0 where
   pub blocks : block_stack.blocks ≡ next.blocks ++ block ∷ []
   pub statements : next.statements ≡ block.before ++ (record { line = block.line; statement = statement }) ∷ []
   pub whole : IsWhole block.head block_stack.statements statement
-
--- what an `end` leaves
-abbrev pub IsClosed : BlockStack → Enclosing → Type 0
-IsClosed block_stack (around.Block next) = ClosesBlock block_stack next
-IsClosed block_stack (around.Body statements) = (block_stack.blocks ≡ []) × (statements ≡ block_stack.statements)
 
 -- the innermost block is an `if` whose first part these statements are
 pub record BecomesElse (block_stack next : BlockStack) : Type 0 where

@@ -126,7 +126,7 @@ impl<'a> Checked<'a> {
         })
     }
 
-    /// Checks one more line of a script, which declares these items in its own space.
+    /// Checks one more line of a script, which declares these items in its own space. A skipped line has nothing to check.
     fn add_line(&mut self, items: &Declarations, form: &Form<&'a [u8]>) -> Result<(), AllocError>
         requires few { length self.now.lines < LONGEST_SCRIPT }
         requires items { items_before (known_in self.now.known) ≤ length self.now.lines }
@@ -139,6 +139,9 @@ impl<'a> Checked<'a> {
         ensures lines { OnOk result (length self.new.lines ≡ length self.old.lines + 1) }
     {
         self.lines.add(items, &self.known, form)?;
+        if let Form::Skip = form {
+            return Ok(());
+        }
         let number = self.lines.len() as u32;
         let line = self.lines.last();
         self.first = self.first.with(items, &self.known, number, form, line);

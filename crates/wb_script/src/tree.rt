@@ -29,7 +29,7 @@ ghost use Rattle.wb_script.specs.ResolvedLines.{form_of};
 
 use crate::checks::declarations::Declarations;
 use crate::checks::resolved_lines::{ResolvedLine, ResolvedLines};
-use crate::tree::bodies::{BodyProgress, OpenBody, add_statement_in_place, add_to_body};
+use crate::tree::bodies::{BodyProgress, OpenBody, add_inside_body, add_to_body, closes_body};
 use crate::tree::classes::{add_to_class, begin_class};
 use crate::tree::openings::{begin_operation, begin_procedure};
 use crate::tree::space::{Space, field_counts};
@@ -37,8 +37,7 @@ use crate::tree::whole::{Building, Owner, Stage, WholeItems, finish_body};
 use std::alloc::{AllocError, Global};
 use std::mem::replace;
 use wb_basics::limits::LONGEST_SCRIPT;
-use wb_lines::line_kinds::role_of;
-use wb_tree::script_lines::{LineKind, Operand, Referent, Role};
+use wb_tree::script_lines::{LineKind, Operand, Referent};
 
 /// What the line with this number opens where nothing is open; `None` if the line is not allowed here.
 fn begin_item(
@@ -162,8 +161,8 @@ fn add_form(
 }
 
 /// Adds the line with this number, which has a form or is skipped, to the tree in place; returns `false` if the line is not allowed here. A
-/// statement that begins no block is appended in the open body, and nothing else moves. For any other line, the tree is taken out and built
-/// anew.
+/// line inside an open body changes that body, and nothing else moves. For any other line that isn't skipped, the tree is taken out and
+/// built anew.
 fn add_next(
     alloc: Global,
     space: Space,
@@ -177,10 +176,13 @@ fn add_next(
     ensures { IfOk result (λ added. GrowsWhereFit (declared_in_space space.entry) number
         (form_of line.entry) building.old (if_added added building.new)) }
 {
+    if let ResolvedLine::Skip = line {
+        return Ok(true);
+    }
     if let ResolvedLine::Line(line_kind, operands) = line {
-        if let Role::Plain = role_of(line_kind) {
-            if let Stage::InBody(_, body) = &mut building.stage {
-                return add_statement_in_place(alloc, space, body, number, line_kind, operands);
+        if let Stage::InBody(_, body) = &mut building.stage {
+            if !closes_body(body, line_kind) {
+                return add_inside_body(alloc, space, body, number, line_kind, operands);
             }
         }
     }

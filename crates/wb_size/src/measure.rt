@@ -10,12 +10,13 @@ ghost use Rattle.wb_meaning.specs.declared.run.Why.{Why};
 ghost use Rattle.wb_size.specs.declared.fault.SizeFault.TheVariants.{BadShape, Cut};
 ghost use Rattle.wb_size.specs.Sizing.{IsSizing};
 
-use crate::fault::SizeFault;
+use crate::fault::{SizeFault, Unsized};
 use crate::sized_run::size_by_run;
 use crate::sizing::Sizing;
 use std::alloc::Global;
 use wb_basics::limits::LARGEST_BUDGET;
 use wb_heap_model::heap::Shape;
+use wb_meaning::conditions::Conditions;
 use wb_runs::progress::Silent;
 use wb_tree::script::Script;
 
@@ -36,5 +37,13 @@ pub fn size(alloc: Global, script: &Script, budget: u32, shape: Shape) -> Result
         (number ≡ 0) × ((run script.now Unlimited budget shape).outcome ≡ outcomes.Cut why) }
     ensures shape { (result ≡ Err SizeFault.BadShape) ↔ (is_shape shape ≡ false) }
 {
-    Ok(size_by_run(alloc, script, budget, shape, &mut Silent)?.into_sizing())
+    if !shape.is_allowed() {
+        return Err(SizeFault::BadShape);
+    }
+    let conditions = Conditions { budget, shape };
+    match size_by_run(alloc, script, conditions, &mut Silent) {
+        Ok(sized) => Ok(sized.into_sizing()),
+        Err(Unsized::Cut { number, why }) => Err(SizeFault::Cut { number, why }),
+        Err(Unsized::NoMemory) => Err(SizeFault::NoMemory),
+    }
 }

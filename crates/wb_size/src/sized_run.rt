@@ -1,23 +1,21 @@
 //! Sizes a script by one run, and says how this run ended.
 
-ghost use Rattle.std.specs.Prelude.{◌≡◌, ◌≤◌, ◌↔◌, ℕ, false, length, IfOk, IsTrue};
+ghost use Rattle.std.specs.Prelude.{◌≡◌, ℕ, length, IfOk, IsTrue};
 ghost use Rattle.wb_meaning.specs.Run.{rises_result_of, run};
 ghost use Rattle.wb_tree.specs.Sound.{is_script};
-ghost use Rattle.wb_heap_model.specs.Space.{is_shape};
 ghost use Rattle.wb_heap_model.specs.declared.heap.Rule.TheVariants.{Unlimited};
 ghost use Rattle.wb_meaning.specs.declared.run.Outcome.TheVariants as outcomes;
 ghost use Rattle.wb_meaning.specs.declared.run.Why.{Why};
-ghost use Rattle.wb_machine.specs.declared.fault.RunFault.TheVariants as RunFault;
-ghost use Rattle.wb_size.specs.declared.fault.SizeFault.TheVariants.{BadShape, Cut};
+ghost use Rattle.wb_size.specs.declared.fault.Unsized.TheVariants.{Cut};
 ghost use Rattle.wb_size.specs.SizedRun.{IsOfRun};
 ghost use Rattle.wb_size.specs.Sizing.{IsSizing};
 
-use crate::fault::SizeFault;
+use crate::fault::Unsized;
 use crate::sizing::{Sizing, sizing_of};
 use std::alloc::Global;
-use wb_basics::limits::LARGEST_BUDGET;
-use wb_heap_model::heap::Shape;
-use wb_machine::{RunFault, run_rises};
+use wb_basics::memory::NoMemory;
+use wb_machine::run_rises;
+use wb_meaning::conditions::Conditions;
 use wb_meaning::run::{Outcome, RisesResult};
 use wb_runs::progress::Progress;
 use wb_tree::script::Script;
@@ -50,26 +48,25 @@ impl SizedRun {
 }
 
 /// Sizes a script as `size` does. Also returns how the run ended and how many attempts and steps the run made, so that no second run is
-/// needed. This function asks for no more memory than `size`. `progress` is notified of the steps taken.
+/// needed. `size` asks for the same memory. `progress` is notified of the steps taken.
 pub fn size_by_run<P: Progress>(
     alloc: Global,
     script: &Script,
-    budget: u32,
-    shape: Shape,
+    conditions: Conditions,
     progress: &mut P,
-) -> Result<SizedRun, SizeFault>
-    requires script { IsTrue (is_script script.now) }
-    requires least { 1 ≤ budget }
-    requires greatest { budget ≤ LARGEST_BUDGET }
-    ensures sizing { IfOk result (λ sized. IsSizing script.now budget shape sized.sizing) }
-    ensures ran { IfOk result (IsOfRun (run script.now Unlimited budget shape)) }
-    ensures cut { (number : ℕ) (why : Why) → result ≡ Err (SizeFault.Cut number why) →
-        (number ≡ 0) × ((run script.now Unlimited budget shape).outcome ≡ outcomes.Cut why) }
-    ensures shape { (result ≡ Err SizeFault.BadShape) ↔ (is_shape shape ≡ false) }
+) -> Result<SizedRun, Unsized>
+    requires { IsTrue (is_script script.now) }
+    ensures sizing { IfOk result (λ sized.
+        IsSizing script.now conditions.budget conditions.shape sized.sizing) }
+    ensures ran { IfOk result
+        (IsOfRun (run script.now Unlimited conditions.budget conditions.shape)) }
+    ensures cut { (number : ℕ) (why : Why) → result ≡ Err (Unsized.Cut number why) →
+        (number ≡ 0) × ((run script.now Unlimited conditions.budget conditions.shape).outcome
+        ≡ outcomes.Cut why) }
 {
-    let (run_result, attempts) = run_notifying(alloc, script, budget, shape, progress)?;
+    let (run_result, attempts) = run_notifying(alloc, script, conditions, progress)?;
     if let Outcome::Cut(why) = &run_result.outcome {
-        return Err(SizeFault::Cut {
+        return Err(Unsized::Cut {
             number: 0,
             why: *why,
         });
@@ -91,21 +88,17 @@ pub fn size_by_run<P: Progress>(
 fn run_notifying<P: Progress>(
     alloc: Global,
     script: &Script,
-    budget: u32,
-    shape: Shape,
+    conditions: Conditions,
     progress: &mut P,
-) -> Result<(RisesResult, u32), RunFault>
-    requires script { IsTrue (is_script script.now) }
-    requires least { 1 ≤ budget }
-    requires greatest { budget ≤ LARGEST_BUDGET }
-    ensures ran { IfOk result (λ counted.
-        counted.0 ≡ rises_result_of (run script.now Unlimited budget shape)) }
-    ensures attempts { IfOk result (λ counted.
-        counted.1 ≡ length (run script.now Unlimited budget shape).trace) }
-    ensures shape { (result ≡ Err RunFault.BadShape) ↔ (is_shape shape ≡ false) }
+) -> Result<(RisesResult, u32), NoMemory>
+    requires { IsTrue (is_script script.now) }
+    ensures ran { IfOk result (λ counted. counted.0
+        ≡ rises_result_of (run script.now Unlimited conditions.budget conditions.shape)) }
+    ensures attempts { IfOk result (λ counted. counted.1
+        ≡ length (run script.now Unlimited conditions.budget conditions.shape).trace) }
 {
     progress.begin_run();
-    let ran = run_rises(alloc, script, budget, shape, progress);
+    let ran = run_rises(alloc, script, conditions, progress);
     progress.end();
     ran
 }

@@ -1,9 +1,7 @@
 //! How a search grows: which runs it follows next. This file doesn't decide what the search's answer is.
 
-ghost use Rattle.std.specs.Prelude.{◌≡◌, ◌+◌, ◌<◌, ◌≤◌, ◌++◌, ◌∷◌, [], false, true, length, slice_get, Some, Ok, Err, IfOk, OnOk, IsTrue};
-ghost use Rattle.wb_machine.specs.declared.fault.RunFault.TheVariants as RunFault;
+ghost use Rattle.std.specs.Prelude.{◌≡◌, ◌+◌, ◌<◌, ◌++◌, ◌∷◌, [], false, true, length, slice_get, Some, Ok, Err, IfOk, OnOk, IsTrue};
 ghost use Rattle.wb_tree.specs.Sound.{is_script};
-ghost use Rattle.wb_heap_model.specs.Space.{is_shape};
 ghost use Rattle.wb_runs.specs.Sets.{set_run};
 ghost use Rattle.wb_states.specs.Ground.{turns_of};
 ghost use Rattle.wb_states.specs.States.{failing_next, ground_of, next_attempt, turns_at, GoesOn, HasGrown};
@@ -16,10 +14,10 @@ use crate::state::{Edge, State};
 use std::alloc::{AllocError, Global};
 use std::collections::HashMap;
 use wb_basics::items::Items;
-use wb_basics::limits::LARGEST_BUDGET;
 use wb_basics::memory::NoMemory;
-use wb_heap_model::heap::{Numbers, Rule, Shape};
-use wb_machine::{Machine, RunFault};
+use wb_heap_model::heap::{Numbers, Rule};
+use wb_machine::Machine;
+use wb_meaning::conditions::Conditions;
 use wb_runs::part::Part;
 use wb_runs::progress::Progress;
 use wb_tree::script::Script;
@@ -44,27 +42,24 @@ impl<'a> Search<'a> {
     pub fn new(
         alloc: Global,
         script: &'a Script,
-        budget: u32,
-        shape: Shape,
+        conditions: Conditions,
         plan: Plan,
-    ) -> Result<Search<'a>, RunFault>
+    ) -> Result<Search<'a>, NoMemory>
         requires script { IsTrue (is_script script.now) }
-        requires least { 1 ≤ budget }
-        requires greatest { budget ≤ LARGEST_BUDGET }
-        requires last { plan.last ≡ length (set_run script.now budget shape []).trace }
+        requires last { plan.last
+            ≡ length (set_run script.now conditions.budget conditions.shape []).trace }
         ensures sound { IfOk result IsSound }
         ensures ground { IfOk result (λ search. ground_of search ≡ record {
           script = script.now;
-          budget = budget;
-          shape = shape;
+          budget = conditions.budget;
+          shape = conditions.shape;
           whole = plan.whole;
           part = plan.part;
           last = plan.last;
           allowed = plan.allowed;
         }) }
-        ensures shape { result ≡ Err RunFault.BadShape → is_shape shape ≡ false }
     {
-        let mut machine = Machine::new_rises(alloc, script, budget, shape)?;
+        let mut machine = Machine::start_rises(alloc, script, conditions)?;
         machine.set_rule(Rule::Set(Numbers::new(alloc)));
         let mut states = Items::new(alloc);
         let mut runs = Runs::new(alloc);
@@ -74,14 +69,12 @@ impl<'a> Search<'a> {
             steps: 0,
             before: 0,
         };
-        if states.push(first).is_err() {
-            return Err(RunFault::NoMemory);
-        }
+        states.push(first)?;
         runs.push(0, machine)?;
         Ok(Search {
             script,
-            budget,
-            shape,
+            budget: conditions.budget,
+            shape: conditions.shape,
             states,
             runs,
             granted: Items::new(alloc),

@@ -1,7 +1,6 @@
 //! A search over states, with more and more attempts that fail, until an answer is known.
 
-ghost use Rattle.std.specs.Prelude.{◌≡◌, ℕ, ◌+◌, ◌^◌, ◌<◌, ◌≤◌, List, [], length, true, false, IfOk, IfSome, OnOk, IsTrue};
-ghost use Rattle.wb_heap_model.specs.Space.{is_shape};
+ghost use Rattle.std.specs.Prelude.{◌≡◌, ℕ, ◌+◌, ◌^◌, ◌<◌, ◌≤◌, List, [], length, true, false, IfOk, IfSome, IsTrue};
 ghost use Rattle.wb_tree.specs.Sound.{is_script};
 ghost use Rattle.wb_runs.specs.EverySet.{AreAllSetsFineIn};
 ghost use Rattle.wb_runs.specs.Parts.{last_attempt};
@@ -24,10 +23,8 @@ use crate::labels::{greatest_turns, met_turns};
 use crate::search::Search;
 use crate::state::Shown;
 use std::alloc::Global;
-use wb_basics::limits::LARGEST_BUDGET;
 use wb_basics::memory::NoMemory;
-use wb_heap_model::heap::Shape;
-use wb_machine::RunFault;
+use wb_meaning::conditions::Conditions;
 use wb_runs::part::Part;
 use wb_runs::progress::Progress;
 use wb_tree::script::Script;
@@ -190,27 +187,24 @@ fn search_by<P: Progress>(
     script: &Script,
     plan: Plan,
     most: u32,
-    budget: u32,
-    shape: Shape,
+    conditions: Conditions,
     progress: &mut P,
-) -> Result<Option<Searched>, RunFault>
+) -> Result<Option<Searched>, NoMemory>
     requires script { IsTrue (is_script script.now) }
-    requires least { 1 ≤ budget }
-    requires greatest { budget ≤ LARGEST_BUDGET }
-    requires last { plan.last ≡ length (set_run script.now budget shape []).trace }
+    requires last { plan.last
+        ≡ length (set_run script.now conditions.budget conditions.shape []).trace }
     ensures answer { IfOk result (λ answer. IfSome answer (IsAnswer (record {
       script = script.now;
-      budget = budget;
-      shape = shape;
+      budget = conditions.budget;
+      shape = conditions.shape;
       whole = plan.whole;
       part = plan.part;
       last = plan.last;
       allowed = plan.allowed;
     }))) }
-    ensures shape { result ≡ Err RunFault.BadShape → is_shape shape ≡ false }
 {
-    let mut search = Search::new(alloc, script, budget, shape, plan)?;
-    Ok(search.look(alloc, most, progress)?)
+    let mut search = Search::new(alloc, script, conditions, plan)?;
+    search.look(alloc, most, progress)
 }
 
 /// Searches the tried sets of a part for the least set that has at most `most` attempts and whose run is bad or cut. The answer is this
@@ -228,24 +222,21 @@ pub fn search_states<P: Progress>(
     last: u32,
     most: u32,
     states: u32,
-    budget: u32,
-    shape: Shape,
+    conditions: Conditions,
     progress: &mut P,
-) -> Result<Searched, RunFault>
+) -> Result<Searched, NoMemory>
     requires script { IsTrue (is_script script.now) }
-    requires least { 1 ≤ budget }
-    requires greatest { budget ≤ LARGEST_BUDGET }
-    requires last { last ≡ last_attempt Single script.now budget shape }
-    requires single { IsNoSetIn part 1 script.now budget shape }
+    requires last { last ≡ last_attempt Single script.now conditions.budget conditions.shape }
+    requires single { IsNoSetIn part 1 script.now conditions.budget conditions.shape }
     ensures shown { (shown : Shown) → result ≡ Ok (found.Shown shown) →
-        IsLeastShownIn part script.now budget shape shown }
-    ensures fine { result ≡ Ok found.Fine → AreAllSetsFineIn part script.now budget shape }
+        IsLeastShownIn part script.now conditions.budget conditions.shape shown }
+    ensures fine { result ≡ Ok found.Fine →
+        AreAllSetsFineIn part script.now conditions.budget conditions.shape }
     ensures fine_to { (fine : ℕ) → result ≡ Ok (found.FineTo fine) →
-        (1 ≤ fine) × AreSetsFineIn part fine script.now budget shape }
+        (1 ≤ fine) × AreSetsFineIn part fine script.now conditions.budget conditions.shape }
     ensures many { (fine : ℕ) → result ≡ Ok (found.ManyStates fine) →
-        (1 ≤ fine) × AreSetsFineIn part fine script.now budget shape
-        × AreManyStatesIn part (fine + 1) states script.now budget shape }
-    ensures shape { result ≡ Err RunFault.BadShape → is_shape shape ≡ false }
+        (1 ≤ fine) × AreSetsFineIn part fine script.now conditions.budget conditions.shape
+        × AreManyStatesIn part (fine + 1) states script.now conditions.budget conditions.shape }
 {
     let quick = Plan {
         whole: is_whole(part, last),
@@ -254,14 +245,14 @@ pub fn search_states<P: Progress>(
         exact: false,
         allowed: states,
     };
-    if let Some(answer) = search_by(alloc, script, quick, most, budget, shape, progress)? {
+    if let Some(answer) = search_by(alloc, script, quick, most, conditions, progress)? {
         return Ok(at_least_one(answer));
     }
     let exact = Plan {
         exact: true,
         ..quick
     };
-    match search_by(alloc, script, exact, most, budget, shape, progress)? {
+    match search_by(alloc, script, exact, most, conditions, progress)? {
         Some(answer) => Ok(at_least_one(answer)),
         None => Ok(Searched::FineTo(1)),
     }

@@ -8,4 +8,3 @@ mod TellLemmas
 mod SetSearchLemmas
 mod SetPartLemmas
 mod Errors
-mod EverySetFaults

@@ -84,23 +84,17 @@ module _ (part : Part) (script : Script) (budget : ℕ) (shape : Shape) where
   single_fine : AreNumbersFine (runs_of Single script budget shape) part (last_attempt Single script budget shape) →
       (at : Failing) → IsTried Single part (last_attempt Single script budget shape) at → is_fine (run_at script budget shape at) ≡ true
   single_fine fine (Number n) tried = fine n tried
-  single_fine fine (failings.Every n) tried = absurd tried
-  single_fine fine (failings.From n) tried = absurd tried
-  single_fine fine (Pair i j) tried = absurd tried
+  single_fine fine at tried = absurd tried
 
   rates_fine : AreNumbersFine (runs_of Every script budget shape) part (last_attempt Every script budget shape) →
       (at : Failing) → IsTried Every part (last_attempt Every script budget shape) at → is_fine (run_at script budget shape at) ≡ true
   rates_fine fine (failings.Every n) tried = fine n tried
-  rates_fine fine (failings.From n) tried = absurd tried
-  rates_fine fine (Number n) tried = absurd tried
-  rates_fine fine (Pair i j) tried = absurd tried
+  rates_fine fine at tried = absurd tried
 
   persistent_fine : AreNumbersFine (runs_of Persistent script budget shape) part (last_attempt Persistent script budget shape) →
       (at : Failing) → IsTried Persistent part (last_attempt Persistent script budget shape) at → is_fine (run_at script budget shape at) ≡ true
   persistent_fine fine (failings.From n) tried = fine n tried
-  persistent_fine fine (failings.Every n) tried = absurd tried
-  persistent_fine fine (Number n) tried = absurd tried
-  persistent_fine fine (Pair i j) tried = absurd tried
+  persistent_fine fine at tried = absurd tried
 
   pub none-single : IsUncut Single script budget shape → AreNumbersFine (runs_of Single script budget shape) part (last_attempt Single script budget shape) →
       IsNoneIn Single part script budget shape

@@ -1,20 +1,25 @@
 -- What is found among the sets that begin with one number is the least of a part, where those with a lesser first number are fine and so are
 -- those with fewer numbers.
-use Rattle.std.proofs.Common.{◌≡◌, ℕ, ◌+◌, ◌-◌, ◌<◌, ◌≤◌, inl, inr, arith, Bool, true, false, List, [], ◌∷◌, length, min, refl, sym, ◌∙◌, subst}
+use Rattle.std.proofs.Common.{◌≡◌, ℕ, zero, suc, ◌+◌, ◌-◌, ◌<◌, ◌≤◌, inl, inr, arith, Bool, true, false, List, [], ◌∷◌, length, min, refl, sym, ◌∙◌, subst}
 use Rattle.std.proofs.lemmas.Bool.{cases_lt}
+use Rattle.wb_runs.specs.declared.failures.Failing.{Failing}
+use Rattle.wb_runs.specs.declared.failures.Failing.TheVariants.{Number, Set}
 use Rattle.wb_runs.specs.declared.failures.Failures.TheVariants.{Single}
 use Rattle.wb_heap_model.specs.declared.heap.Shape.{Shape}
 use Rattle.wb_runs.specs.declared.part.Part.{Part}
 use Rattle.wb_meaning.specs.declared.run.RunResult.{RunResult}
 use Rattle.wb_meaning.specs.declared.run.Why.{Why}
 use Rattle.wb_tree.specs.declared.script.Script.{Script}
-use Rattle.wb_runs.specs.Parts.{last_attempt, IsNumberOf, IsUncut}
+use Rattle.wb_runs.specs.EverySet.{IsLeastSetCutIn}
+use Rattle.wb_runs.specs.Parts.{last_attempt, IsCutIn, IsNumberOf, IsTried, IsUncut}
 use Rattle.wb_runs.specs.SetParts.{AreSetsFineIn, AreSetsFineInBefore, IsLeastCutSetIn, IsSetCutIn, IsSetFoundIn, IsSetOf}
 use Rattle.wb_runs.specs.Sets.{AscendsPast, has_lesser_number, set_run}
-use Rattle.wb_runs.specs.Sweeps.{is_fine}
-use Rattle.wb_sweep.specs.declared.set_answer.FoundSet.{FoundSet}
-use Rattle.wb_sweep.specs.SetSearch.{AreFewerFineWith, IsCutWith, IsFoundWith, IsRest}
+use Rattle.wb_runs.specs.Sweeps.{failing_set, is_fine, set_of, IsNamedAsSet}
+use Rattle.wb_sweep.specs.declared.found.Found.{Found}
+use Rattle.wb_sweep.specs.SetSearch.{AreFewerFineWith, IsCutAsSet, IsCutWith, IsFoundAsSet, IsFoundWith, IsRest}
+use Rattle.wb_sweep.specs.SetSweeping.{IsCutAmongSets, IsFoundAmongSets}
 use Rattle.wb_sweep.proofs.PartFound.{number-within, within-number}
+use Rattle.wb_runs.proofs.OnceFound.{bad-unfine, cut-unfine}
 use Rattle.wb_runs.proofs.SetOrder.{before-by}
 use Rattle.wb_sweep.proofs.SetSearchLemmas.{AreFineUpTo, lesser-fine}
 
@@ -73,28 +78,30 @@ module _ (part : Part) (script : Script) (budget : ℕ) (shape : Shape) where
       | inr both ↦ least other (as-rest (fewer + 1) other (omega arith) is (both.0 ∙ many)) both.1
     ]
 
-    pub set-found : (found : FoundSet) → IsFoundWith runs [] number (fewer + 1) found → IsSetFoundIn part (fewer + 1) script budget shape found.numbers found.result
+    pub set-found : (found : Found) → IsFoundWith runs [] number (fewer + 1) found → IsFoundAsSet part (fewer + 1) script budget shape found.at found.result
     set-found found (rest, named, is) =
         let many : length (number ∷ rest) ≡ fewer + 1 = omega (arith, is.further.many) in
-        subst (λ xs. IsSetFoundIn part (fewer + 1) script budget shape xs found.result) (sym named) (record {
+        let least_set : IsSetFoundIn part (fewer + 1) script budget shape (number ∷ rest) found.result = record {
           uncut = uncut;
           tried = of-part number rest is_of (omega (arith, next)) is.further.ascends;
           few = omega (arith, many);
           bad = is.bad;
           least = before rest many (λ other. lesser-fine runs [] before_part made (fewer + 1) number next begun up_to rest other is.least);
           run_is = is.run_is;
-        })
+        } in
+        subst (λ f. IsFoundAsSet part (fewer + 1) script budget shape f found.result) (sym named) (refl, least_set)
 
-    pub set-cut : (numbers : List ℕ) (why : Why) → IsCutWith runs [] number (fewer + 1) numbers why → IsLeastCutSetIn part (fewer + 1) script budget shape numbers why
-    set-cut numbers why (rest, named, is) =
+    pub set-cut : (at : Failing) (why : Why) → IsCutWith runs [] number (fewer + 1) at why → IsCutAsSet part (fewer + 1) script budget shape at why
+    set-cut at why (rest, named, is) =
         let many : length (number ∷ rest) ≡ fewer + 1 = omega (arith, is.further.many) in
-        subst (λ xs. IsLeastCutSetIn part (fewer + 1) script budget shape xs why) (sym named) (record {
+        let least_set : IsLeastCutSetIn part (fewer + 1) script budget shape (number ∷ rest) why = record {
           uncut = uncut;
           tried = of-part number rest is_of (omega (arith, next)) is.further.ascends;
           few = omega (arith, many);
           cut = is.cut;
           least = before rest many (λ other. lesser-fine runs [] before_part made (fewer + 1) number next begun up_to rest other is.least);
-        })
+        } in
+        subst (λ f. IsCutAsSet part (fewer + 1) script budget shape f why) (sym named) (refl, least_set)
 
   -- ---- what is found of few is found of more
 
@@ -123,3 +130,44 @@ module _ (part : Part) (script : Script) (budget : ℕ) (shape : Shape) where
       IsSetCutIn part most script budget shape numbers why
   any-cut-weaker few most le numbers why (inl is) = inl is
   any-cut-weaker few most le numbers why (inr is) = inr (cut-weaker few most le numbers why is)
+
+  -- where others know nothing of sets that have more attempts
+  pub cut-of-any-size : (most : ℕ) (numbers : List ℕ) (why : Why) → IsSetCutIn part most script budget shape numbers why →
+      IsLeastSetCutIn part script budget shape numbers why
+  cut-of-any-size most numbers why (inl is) = inl is
+  cut-of-any-size most numbers why (inr is) =
+      inr (record { uncut = is.uncut; tried = is.tried; few = omega arith; cut = is.cut; least = is.least })
+
+  -- ---- the failures that are named so
+
+  -- a single number is
+  pub number-named : (at : Failing) → IsTried Single part last at → IsNamedAsSet at
+  number-named (Number zero) tried = refl
+  number-named (Number (suc n)) tried = refl
+  number-named at tried = absurd tried
+
+  pub cut-named : (at : Failing) (why : Why) → IsCutIn Single part script budget shape at why → IsNamedAsSet at
+  cut-named at why (inl is) = subst IsNamedAsSet (sym is.failing) refl
+  cut-named at why (inr is) = number-named at is.tried
+
+  -- a set with a run that isn't fine has two attempts and more, where those with fewer are fine
+  pub several : AreSetsFineIn part 1 script budget shape → (numbers : List ℕ) → IsSetOf part last numbers → (is_fine (runs numbers) ≡ true → ⊥) → 2 ≤ length numbers
+  several fine numbers tried unfine = elim (cases_lt 1 (length numbers)) [
+    | inl more ↦ omega (arith, more)
+    | inr few ↦ absurd (unfine (fine numbers tried few))
+  ]
+
+  as-set : (numbers : List ℕ) → 2 ≤ length numbers → Set numbers ≡ failing_set numbers
+  as-set [] many = absurd (omega (arith, many))
+  as-set (n ∷ []) many = absurd (omega (arith, many))
+  as-set (m ∷ n ∷ ns) many = refl
+
+  pub found-named : AreSetsFineIn part 1 script budget shape → (most : ℕ) (at : Failing) (result : RunResult) → IsFoundAsSet part most script budget shape at result →
+      IsFoundAmongSets part most script budget shape at result
+  found-named fine most at result is =
+      (is.0 ∙ as-set (set_of at) (several fine (set_of at) is.1.tried (bad-unfine (runs (set_of at)) is.1.bad)), is.1)
+
+  pub cut-as-named : AreSetsFineIn part 1 script budget shape → (most : ℕ) (at : Failing) (why : Why) → IsCutAsSet part most script budget shape at why →
+      IsCutAmongSets part most script budget shape at why
+  cut-as-named fine most at why is =
+      (is.0 ∙ as-set (set_of at) (several fine (set_of at) is.1.tried (cut-unfine (runs (set_of at)) why is.1.cut)), inr is.1)

@@ -8,6 +8,8 @@ use Rattle.wb_machine.specs.Seen.{Seen}
 use Rattle.wb_heap_model.specs.declared.heap.Answer.TheVariants.{Simulated}
 use Rattle.wb_heap_model.specs.declared.heap.Rule.TheVariants.{Set}
 use Rattle.wb_heap_model.specs.declared.heap.Shape.{Shape}
+use Rattle.wb_runs.specs.declared.failures.Failing.{Failing}
+use Rattle.wb_runs.specs.declared.failures.Failing.TheVariants as failings
 use Rattle.wb_meaning.specs.declared.run.Outcome.TheVariants.{Cut}
 use Rattle.wb_meaning.specs.declared.run.RunResult.{RunResult}
 use Rattle.wb_meaning.specs.declared.run.Why.{Why}
@@ -18,8 +20,9 @@ use Rattle.wb_runs.specs.Sets.{AscendsPast, has_lesser_number, set_run}
 use Rattle.wb_runs.specs.Sweeps.{is_fine}
 use Rattle.wb_runs.proofs.SetLemmas.{past-last}
 use Rattle.wb_runs.proofs.SweepLemmas.{fine_uncut}
-use Rattle.wb_sweep.specs.declared.set_answer.FoundSet.{FoundSet}
-use Rattle.wb_sweep.specs.SetSearch.{AreFewerFine, AreFewerFineWith, AreFine, AreFineWith, IsBadSet, IsCutAfter, IsCutWith, IsFoundAfter, IsFoundWith, IsRest, IsRestWith}
+use Rattle.wb_sweep.specs.declared.found.Found.{Found}
+use Rattle.wb_sweep.specs.SetSearch.{AreFewerFine, AreFewerFineWith, AreFine, AreFineWith, IsCutAfter, IsCutWith, IsFoundAfter, IsFoundWith, IsRest, IsRestWith}
+use Rattle.wb_sweep.specs.Sweeping.{IsBadAt}
 use Rattle.wb_runs.proofs.SetOrder.{lesser-first, none-is-lesser}
 
 or_false : (b : Bool) → (b || false) ≡ b
@@ -47,11 +50,11 @@ module _ (runs : List ℕ → RunResult) (set : List ℕ) where
   fine-alone number fine [] is = fine
   fine-alone number fine (n ∷ ns) is = absurd (omega (arith, is.many))
 
-  pub found-alone : (number : ℕ) (result : RunResult) (found : FoundSet) → IsBadSet (set ++ number ∷ []) result found → result ≡ runs (set ++ number ∷ []) →
+  pub found-alone : (number : ℕ) (result : RunResult) (found : Found) → IsBadAt (failings.Set (set ++ number ∷ [])) result found → result ≡ runs (set ++ number ∷ []) →
       IsFoundWith runs set number 1 found
   found-alone number result found is ran = (
     [],
-    is.set,
+    is.failing,
     record {
       further = record { ascends = tt; many = refl };
       bad = ap is_bad (sym ran) ∙ is.bad;
@@ -60,9 +63,9 @@ module _ (runs : List ℕ → RunResult) (set : List ℕ) where
     },
   )
 
-  pub cut-alone : (number : ℕ) (result : RunResult) (numbers : List ℕ) (why : Why) → numbers ≡ set ++ number ∷ [] → result.outcome ≡ Cut why →
-      result ≡ runs (set ++ number ∷ []) → IsCutWith runs set number 1 numbers why
-  cut-alone number result numbers why named cut ran = (
+  pub cut-alone : (number : ℕ) (result : RunResult) (at : Failing) (why : Why) → at ≡ failings.Set (set ++ number ∷ []) → result.outcome ≡ Cut why →
+      result ≡ runs (set ++ number ∷ []) → IsCutWith runs set number 1 at why
+  cut-alone number result at why named cut ran = (
     [],
     named,
     record {
@@ -87,10 +90,10 @@ module _ (runs : List ℕ → RunResult) (set : List ℕ) where
     pub fine-outside : AreFine runs (set ++ number ∷ []) number (more - 1) → AreFineWith runs set number more
     fine-outside fine rest is = ap (λ xs. is_fine (runs xs)) (sym (one-more number rest)) ∙ fine rest (inside rest is)
 
-    pub found-outside : (found : FoundSet) → IsFoundAfter runs (set ++ number ∷ []) number (more - 1) found → IsFoundWith runs set number more found
+    pub found-outside : (found : Found) → IsFoundAfter runs (set ++ number ∷ []) number (more - 1) found → IsFoundWith runs set number more found
     found-outside found (rest, named, is) = (
       rest,
-      named ∙ one-more number rest,
+      named ∙ ap failings.Set (one-more number rest),
       record {
         further = outside rest is.further;
         bad = ap (λ xs. is_bad (runs xs)) (sym (one-more number rest)) ∙ is.bad;
@@ -99,10 +102,10 @@ module _ (runs : List ℕ → RunResult) (set : List ℕ) where
       },
     )
 
-    pub cut-outside : (numbers : List ℕ) (why : Why) → IsCutAfter runs (set ++ number ∷ []) number (more - 1) numbers why → IsCutWith runs set number more numbers why
-    cut-outside numbers why (rest, named, is) = (
+    pub cut-outside : (at : Failing) (why : Why) → IsCutAfter runs (set ++ number ∷ []) number (more - 1) at why → IsCutWith runs set number more at why
+    cut-outside at why (rest, named, is) = (
       rest,
-      named ∙ one-more number rest,
+      named ∙ ap failings.Set (one-more number rest),
       record {
         further = outside rest is.further;
         cut = ap (λ xs. (runs xs).outcome) (sym (one-more number rest)) ∙ is.cut;
@@ -146,7 +149,7 @@ module _ (runs : List ℕ → RunResult) (set : List ℕ) where
           ∙ least ms (record { ascends = subst (λ k. AscendsPast k ms) both.0 of.ascends.1; many = omega (arith, of.many) }) both.1
     ]
 
-    pub found-further : (found : FoundSet) → IsFoundWith runs set number more found → IsFoundAfter runs set past more found
+    pub found-further : (found : Found) → IsFoundWith runs set number more found → IsFoundAfter runs set past more found
     found-further found (rest, named, is) = (
       number ∷ rest,
       named,
@@ -158,8 +161,8 @@ module _ (runs : List ℕ → RunResult) (set : List ℕ) where
       },
     )
 
-    pub cut-further : (numbers : List ℕ) (why : Why) → IsCutWith runs set number more numbers why → IsCutAfter runs set past more numbers why
-    cut-further numbers why (rest, named, is) = (
+    pub cut-further : (at : Failing) (why : Why) → IsCutWith runs set number more at why → IsCutAfter runs set past more at why
+    cut-further at why (rest, named, is) = (
       number ∷ rest,
       named,
       record {

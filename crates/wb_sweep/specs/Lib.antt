@@ -1,11 +1,7 @@
 pub mod AllOfAPart
 pub mod Beside
-pub mod EverySetFaults
-pub mod EverySetSweeping
-pub mod Fault
 pub mod Meetings
 pub mod PairSets
-pub mod SetFaults
 pub mod SetSearch
 pub mod SetSweeping
 pub mod Stretches

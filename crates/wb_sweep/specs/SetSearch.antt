@@ -6,15 +6,15 @@ use Rattle.wb_meaning.specs.declared.run.Outcome.TheVariants.{Cut}
 use Rattle.wb_meaning.specs.declared.run.RunResult.{RunResult}
 use Rattle.wb_meaning.specs.declared.run.Why.{Why}
 use Rattle.wb_meaning.specs.Run.{is_bad}
+use Rattle.wb_runs.specs.declared.failures.Failing.{Failing}
+use Rattle.wb_runs.specs.declared.failures.Failing.TheVariants as failings
+use Rattle.wb_heap_model.specs.declared.heap.Shape.{Shape}
+use Rattle.wb_runs.specs.declared.part.Part.{Part}
+use Rattle.wb_tree.specs.declared.script.Script.{Script}
+use Rattle.wb_runs.specs.SetParts.{IsLeastCutSetIn, IsSetFoundIn}
 use Rattle.wb_runs.specs.Sets.{AscendsPast, has_lesser_number}
-use Rattle.wb_runs.specs.Sweeps.{is_fine}
-use Rattle.wb_sweep.specs.declared.set_answer.FoundSet.{FoundSet}
-
--- what is found of a bad run
-pub record IsBadSet (numbers : List ℕ) (run_result : RunResult) (found : FoundSet) : Type 0 where
-  pub bad : is_bad run_result ≡ true
-  pub set : found.numbers ≡ numbers
-  pub result : found.result ≡ run_result
+use Rattle.wb_runs.specs.Sweeps.{is_fine, set_of}
+use Rattle.wb_sweep.specs.declared.found.Found.{Found}
 
 -- a machine goes along the run in which these attempts fail, in another's script, budget and shape, and has made no attempt past one
 pub record IsForkTo (lead : Seen) (numbers : List ℕ) (number : ℕ) (fork : Seen) : Type 0 where
@@ -54,11 +54,11 @@ pub record IsLeastCutRest (runs : List ℕ → RunResult) (set : List ℕ) (past
   pub cut : (runs (set ++ rest)).outcome ≡ Cut why
   pub least : (other : List ℕ) → IsRest past more other → has_lesser_number other rest ≡ true → is_fine (runs (set ++ other)) ≡ true
 
-abbrev pub IsFoundAfter : (List ℕ → RunResult) → List ℕ → ℕ → ℕ → FoundSet → Type 0
-IsFoundAfter runs set past more found = (rest : List ℕ) × (found.numbers ≡ set ++ rest) × IsLeastBadRest runs set past more rest found.result
+abbrev pub IsFoundAfter : (List ℕ → RunResult) → List ℕ → ℕ → ℕ → Found → Type 0
+IsFoundAfter runs set past more found = (rest : List ℕ) × (found.at ≡ failings.Set (set ++ rest)) × IsLeastBadRest runs set past more rest found.result
 
-abbrev pub IsCutAfter : (List ℕ → RunResult) → List ℕ → ℕ → ℕ → List ℕ → Why → Type 0
-IsCutAfter runs set past more numbers why = (rest : List ℕ) × (numbers ≡ set ++ rest) × IsLeastCutRest runs set past more rest why
+abbrev pub IsCutAfter : (List ℕ → RunResult) → List ℕ → ℕ → ℕ → Failing → Why → Type 0
+IsCutAfter runs set past more at why = (rest : List ℕ) × (at ≡ failings.Set (set ++ rest)) × IsLeastCutRest runs set past more rest why
 
 -- ---- the same, where the first of the further numbers is given
 
@@ -86,10 +86,22 @@ pub record IsLeastCutWith (runs : List ℕ → RunResult) (set : List ℕ) (numb
   pub cut : (runs (set ++ number ∷ rest)).outcome ≡ Cut why
   pub least : (other : List ℕ) → IsRestWith number more other → has_lesser_number other rest ≡ true → is_fine (runs (set ++ number ∷ other)) ≡ true
 
-abbrev pub IsFoundWith : (List ℕ → RunResult) → List ℕ → ℕ → ℕ → FoundSet → Type 0
+abbrev pub IsFoundWith : (List ℕ → RunResult) → List ℕ → ℕ → ℕ → Found → Type 0
 IsFoundWith runs set number more found =
-    (rest : List ℕ) × (found.numbers ≡ set ++ number ∷ rest) × IsLeastBadWith runs set number more rest found.result
+    (rest : List ℕ) × (found.at ≡ failings.Set (set ++ number ∷ rest)) × IsLeastBadWith runs set number more rest found.result
 
-abbrev pub IsCutWith : (List ℕ → RunResult) → List ℕ → ℕ → ℕ → List ℕ → Why → Type 0
-IsCutWith runs set number more numbers why =
-    (rest : List ℕ) × (numbers ≡ set ++ number ∷ rest) × IsLeastCutWith runs set number more rest why
+abbrev pub IsCutWith : (List ℕ → RunResult) → List ℕ → ℕ → ℕ → Failing → Why → Type 0
+IsCutWith runs set number more at why =
+    (rest : List ℕ) × (at ≡ failings.Set (set ++ number ∷ rest)) × IsLeastCutWith runs set number more rest why
+
+-- ---- of a part
+
+-- the failure is a set, which is the least of the part whose run leaks or panics
+abbrev pub IsFoundAsSet : Part → ℕ → Script → ℕ → Shape → Failing → RunResult → Type 0
+IsFoundAsSet part most script budget shape at result =
+    (at ≡ failings.Set (set_of at)) × IsSetFoundIn part most script budget shape (set_of at) result
+
+-- the failure is a set, which is the least of the part whose run is cut
+abbrev pub IsCutAsSet : Part → ℕ → Script → ℕ → Shape → Failing → Why → Type 0
+IsCutAsSet part most script budget shape at why =
+    (at ≡ failings.Set (set_of at)) × IsLeastCutSetIn part most script budget shape (set_of at) why

@@ -1,8 +1,7 @@
 //! A sweep that tries each number of a part: how the run under each listed number ended, and the least number whose run leaks or panics.
 
-ghost use Rattle.std.specs.Prelude.{◌≡◌, ◌≢◌, ◌↔◌, ◌++◌, ◌+◌, ◌-◌, ◌<◌, ◌≤◌, true, false, IfOk, IfSome, IsTrue, OnOk};
+ghost use Rattle.std.specs.Prelude.{◌≡◌, ◌≢◌, ℕ, ◌++◌, ◌+◌, ◌-◌, ◌<◌, ◌≤◌, true, false, IfOk, IfSome, IsTrue, OnOk};
 ghost use Rattle.wb_tree.specs.Sound.{is_script};
-ghost use Rattle.wb_heap_model.specs.Space.{is_shape};
 ghost use Rattle.wb_runs.specs.AllNumbers.{bad_count, first_bad};
 ghost use Rattle.wb_runs.specs.Parts.{last_attempt, IsCutWithout};
 ghost use Rattle.wb_runs.specs.RunEnds.{end_of};
@@ -14,7 +13,7 @@ ghost use Rattle.wb_sweep.specs.Meetings.{ForkedSays, IsAhead};
 ghost use Rattle.wb_sweep.specs.AllOfAPart.{is_listed_end, line_if_told, line_of, listed_in, listed_numbers};
 ghost use Rattle.wb_sweep.specs.AllOfAPart.{AreAllNumbers, IsFoundAsFirst};
 
-use crate::fault::SweepFault;
+use crate::fault::Unswept;
 use crate::followed::{Forked, follow_next};
 use crate::found::{AllNumbers, Found, Listing};
 use crate::lead::lead_under;
@@ -22,15 +21,14 @@ use crate::scout::{Meeting, Scout, scout_beside};
 use crate::walk::attempts_in;
 use std::alloc::Global;
 use wb_basics::items::Items;
-use wb_basics::limits::LARGEST_BUDGET;
 use wb_basics::memory::NoMemory;
-use wb_heap_model::heap::Shape;
-use wb_machine::{Heap, Machine, RunFault, run, run_reporting};
+use wb_machine::{Heap, Machine, run_reporting};
+use wb_meaning::conditions::Conditions;
 use wb_meaning::run::{Outcome, RunResult, Why};
 use wb_runs::failures::{Failing, Failures};
 use wb_runs::number_ends::{NumberEnd, NumberEnds};
 use wb_runs::part::Part;
-use wb_runs::progress::{Aim, Progress};
+use wb_runs::progress::{Aim, Progress, Silent};
 use wb_runs::run_end::RunEnd;
 use wb_tree::script::Script;
 
@@ -77,17 +75,17 @@ fn tell_first(
     part: Part,
     at: Failing,
     first: &RunResult,
-) -> Result<(), SweepFault>
+) -> Result<(), Unswept>
     ensures told { OnOk result
         (part.from ≡ 0 → ends.new ≡ ends.old ++ line_of listing 0 first.now) }
     ensures later { OnOk result (1 ≤ part.from → ends.new ≡ ends.old) }
     ensures uncut { OnOk result (is_cut_outcome first.now.outcome ≡ false) }
-    ensures cut { (other : Failing) (why : Why) → result ≡ Err (SweepFault.Cut other why) →
+    ensures cut { (other : Failing) (why : Why) → result ≡ Err (Unswept.Cut other why) →
         (other ≡ at) × (first.now.outcome ≡ outcomes.Cut why) }
-    ensures shape { result ≢ Err SweepFault.BadShape }
+    ensures known { (fine : ℕ) → result ≢ Err (Unswept.ManyStates fine) }
 {
     if let Outcome::Cut(why) = &first.outcome {
-        return Err(SweepFault::Cut { at, why: *why });
+        return Err(Unswept::Cut { at, why: *why });
     }
     if part.from == 0 {
         tell(ends, listing, 0, RunEnd::of(&first.outcome))?;
@@ -131,8 +129,7 @@ fn tell_next<P: Progress>(
     if !lead.will_attempt() {
         return Ok(());
     }
-    let failing = failures.at(number);
-    progress.begin_failure(failing);
+    progress.begin_failure(&failures.at(number));
     let forked = follow_next(lead, failures, number, scout, spare)?;
     tell(ends, listing, number, end_of_fork(&forked, first))
 }
@@ -216,21 +213,19 @@ fn find_first(
     alloc: Global,
     script: &Script,
     failures: Failures,
-    budget: u32,
-    shape: Shape,
+    conditions: Conditions,
     ends: &NumberEnds,
-) -> Result<Option<Found>, RunFault>
+) -> Result<Option<Found>, NoMemory>
     requires script { IsTrue (is_script script.now) }
-    requires least { 1 ≤ budget }
-    requires greatest { budget ≤ LARGEST_BUDGET }
-    ensures found { IfOk result (IsFoundAsFirst failures script.now budget shape ends.now) }
-    ensures shape { result ≡ Err RunFault.BadShape → is_shape shape ≡ false }
+    ensures { IfOk result
+        (IsFoundAsFirst failures script.now conditions.budget conditions.shape ends.now) }
 {
     let Some(number) = first_bad(ends) else {
         return Ok(None);
     };
     let at = failures.at(number);
-    let result = run(alloc, script, at.rule(), budget, shape)?;
+    let rule = failures.at(number).rule();
+    let result = run_reporting(alloc, script, rule, conditions, &mut Silent)?;
     Ok(Some(Found { at, result }))
 }
 
@@ -243,28 +238,27 @@ fn tell_later<P: Progress>(
     script: &Script,
     failures: Failures,
     part: Part,
-    budget: u32,
-    shape: Shape,
+    conditions: Conditions,
     last: u32,
     first: RunEnd,
     steps: u32,
     progress: &mut P,
-) -> Result<(), RunFault>
+) -> Result<(), NoMemory>
     requires script { IsTrue (is_script script.now) }
-    requires least { 1 ≤ budget }
-    requires greatest { budget ≤ LARGEST_BUDGET }
-    requires last { last ≡ last_attempt failures script.now budget shape }
-    requires uncut { is_cut_outcome (runs_of failures script.now budget shape 0).outcome ≡ false }
-    requires end { first ≡ end_of (runs_of failures script.now budget shape 0).outcome }
-    requires steps { steps ≡ (runs_of failures script.now budget shape 0).steps }
+    requires last { last ≡ last_attempt failures script.now conditions.budget conditions.shape }
+    requires uncut { is_cut_outcome
+        (runs_of failures script.now conditions.budget conditions.shape 0).outcome ≡ false }
+    requires end { first
+        ≡ end_of (runs_of failures script.now conditions.budget conditions.shape 0).outcome }
+    requires steps { steps
+        ≡ (runs_of failures script.now conditions.budget conditions.shape 0).steps }
     requires told { ends.old ≡ listed_numbers listing
-        (runs_of failures script.now budget shape) part.from (1 - part.from) }
-    ensures told { OnOk result
-        (ends.new ≡ listed_in listing (runs_of failures script.now budget shape) part) }
-    ensures shape { result ≡ Err RunFault.BadShape → is_shape shape ≡ false }
+        (runs_of failures script.now conditions.budget conditions.shape) part.from (1 - part.from) }
+    ensures { OnOk result (ends.new
+        ≡ listed_in listing (runs_of failures script.now conditions.budget conditions.shape) part) }
 {
-    let mut lead = lead_under(alloc, script, failures.at(0).rule(), budget, shape)?;
-    let mut scout = scout_beside(&lead, failures, Some(steps), budget)?;
+    let mut lead = lead_under(alloc, script, failures.at(0).rule(), conditions)?;
+    let mut scout = scout_beside(&lead, failures, Some(steps), conditions.budget)?;
     let end = part.to.min(last);
     tell_along(
         ends, listing, &mut lead, first, failures, part.from, end, &mut scout, progress,
@@ -279,31 +273,29 @@ fn tell_all<P: Progress>(
     listing: Listing,
     failures: Failures,
     part: Part,
-    budget: u32,
-    shape: Shape,
+    conditions: Conditions,
     progress: &mut P,
-) -> Result<AllNumbers, SweepFault>
+) -> Result<AllNumbers, Unswept>
     requires script { IsTrue (is_script script.now) }
-    requires least { 1 ≤ budget }
-    requires greatest { budget ≤ LARGEST_BUDGET }
-    ensures told { IfOk result (AreAllNumbers listing failures part script.now budget shape) }
-    ensures cut { (at : Failing) (why : Why) → result ≡ Err (SweepFault.Cut at why) →
-        IsCutWithout failures script.now budget shape at why }
-    ensures shape { (result ≡ Err SweepFault.BadShape) ↔ (is_shape shape ≡ false) }
+    ensures told { IfOk result
+        (AreAllNumbers listing failures part script.now conditions.budget conditions.shape) }
+    ensures cut { (at : Failing) (why : Why) → result ≡ Err (Unswept.Cut at why) →
+        IsCutWithout failures script.now conditions.budget conditions.shape at why }
+    ensures known { (fine : ℕ) → result ≢ Err (Unswept.ManyStates fine) }
 {
-    let none = failures.at(0);
-    let first = run_reporting(alloc, script, none.rule(), budget, shape, progress)?;
+    let first = run_reporting(alloc, script, failures.at(0).rule(), conditions, progress)?;
     let attempts = attempts_in(first.trace.as_slice());
     let end = RunEnd::of(&first.outcome);
     let steps = first.steps;
     let mut ends = Items::new(alloc);
+    let none = failures.at(0);
     tell_first(&mut ends, listing, part, none, &first)?;
     progress.begin_failures(part.from.max(1), part.to.min(attempts));
     tell_later(
-        &mut ends, listing, alloc, script, failures, part, budget, shape, attempts, end, steps,
+        &mut ends, listing, alloc, script, failures, part, conditions, attempts, end, steps,
         progress,
     )?;
-    let found = find_first(alloc, script, failures, budget, shape, &ends)?;
+    let found = find_first(alloc, script, failures, conditions, &ends)?;
     Ok(AllNumbers {
         attempts,
         bad: bad_count(&ends),
@@ -316,30 +308,26 @@ fn tell_all<P: Progress>(
 /// how many of these runs leak or panic. Also returns the least number whose run leaks or panics, with this run. If the failures are pairs,
 /// only the single numbers are tried.
 ///
-/// `Cut` is returned exactly if the run without failure is cut. The run without failure is listed only if the part has number 0. `BadShape`
-/// is returned exactly if no heap may have the shape. `progress` is notified as by `sweep`.
+/// `Cut` is returned exactly if the run without failure is cut. The run without failure is listed only if the part has number 0.
+/// `progress` is notified as by `sweep`.
 pub fn sweep_all<P: Progress>(
     alloc: Global,
     script: &Script,
     listing: Listing,
     failures: Failures,
     part: Part,
-    budget: u32,
-    shape: Shape,
+    conditions: Conditions,
     progress: &mut P,
-) -> Result<AllNumbers, SweepFault>
+) -> Result<AllNumbers, Unswept>
     requires script { IsTrue (is_script script.now) }
-    requires least { 1 ≤ budget }
-    requires greatest { budget ≤ LARGEST_BUDGET }
-    ensures told { IfOk result (AreAllNumbers listing failures part script.now budget shape) }
-    ensures cut { (at : Failing) (why : Why) → result ≡ Err (SweepFault.Cut at why) →
-        IsCutWithout failures script.now budget shape at why }
-    ensures shape { (result ≡ Err SweepFault.BadShape) ↔ (is_shape shape ≡ false) }
+    ensures told { IfOk result
+        (AreAllNumbers listing failures part script.now conditions.budget conditions.shape) }
+    ensures cut { (at : Failing) (why : Why) → result ≡ Err (Unswept.Cut at why) →
+        IsCutWithout failures script.now conditions.budget conditions.shape at why }
+    ensures known { (fine : ℕ) → result ≢ Err (Unswept.ManyStates fine) }
 {
     progress.begin(Aim::All);
-    let told = tell_all(
-        alloc, script, listing, failures, part, budget, shape, progress,
-    );
+    let told = tell_all(alloc, script, listing, failures, part, conditions, progress);
     progress.end();
     told
 }

@@ -4,7 +4,8 @@ use wb_meaning::run::RunResult;
 use wb_runs::failures::Failing;
 use wb_runs::number_ends::NumberEnds;
 
-/// The least failure whose run is bad, together with this run.
+/// The least failure whose run is bad, together with this run. A sweep over sets names a single attempt by its number, with number 0 for the
+/// run without failure, and two or more attempts by their set.
 #[derive(Debug, Drop)]
 pub struct Found {
     pub at: Failing,

@@ -1,24 +1,26 @@
 //! A sweep over sets of two or more attempts, made after the run of each single attempt turned out fine. The sweep follows states first. If
 //! the states become too many, the sweep walks over the sets.
 
-ghost use Rattle.std.specs.Prelude.{◌≡◌, ◌≢◌, ◌⊎◌, ℕ, ◌<◌, ◌≤◌, List, None, false, length, true, IfOk, IfSome, IsTrue};
+ghost use Rattle.std.specs.Prelude.{◌≡◌, ◌≢◌, ◌⊎◌, ℕ, ◌<◌, ◌≤◌, None, length, true, IfOk, IfSome, IsTrue};
 ghost use Rattle.wb_tree.specs.Sound.{is_script};
-ghost use Rattle.wb_heap_model.specs.Space.{is_shape};
 ghost use Rattle.wb_runs.specs.Parts.{last_attempt};
-ghost use Rattle.wb_runs.specs.SetParts.{AreSetsFineIn, IsLeastCutSetIn, IsNoSetIn, IsSetFoundIn};
+ghost use Rattle.wb_runs.specs.SetParts.{AreSetsFineIn, IsNoSetIn};
 ghost use Rattle.wb_runs.specs.Sweeps.{is_fine};
 ghost use Rattle.wb_runs.specs.declared.failures.Failures.TheVariants.{Single};
 ghost use Rattle.wb_meaning.specs.declared.run.Outcome.TheVariants as outcomes;
 ghost use Rattle.wb_meaning.specs.declared.run.Why.{Why};
-ghost use Rattle.wb_sweep.specs.SetSearch.{IsBadSet};
+ghost use Rattle.wb_runs.specs.declared.failures.Failing.{Failing};
+ghost use Rattle.wb_sweep.specs.SetSearch.{IsCutAsSet, IsFoundAsSet};
+ghost use Rattle.wb_sweep.specs.Sweeping.{IsBadAt};
 
-use crate::set_answer::{FoundSet, SetFault};
+use crate::fault::Unswept;
+use crate::found::Found;
 use crate::set_walk::walk_sets;
-use crate::sets::judge_set;
 use crate::states_worth::states_worth;
+use crate::walk::judge_run;
 use std::alloc::Global;
-use wb_basics::limits::LARGEST_BUDGET;
-use wb_heap_model::heap::Shape;
+use wb_meaning::conditions::Conditions;
+use wb_runs::failures::Failing;
 use wb_runs::part::Part;
 use wb_runs::progress::Progress;
 use wb_states::{Searched, Shown, search_states};
@@ -26,21 +28,21 @@ use wb_tree::script::Script;
 
 /// Judges a set whose run is bad or cut, in a search for sets of at most `most` numbers. Returns the set if its run is bad, `Cut` if its
 /// run is cut, and `None` if the set has more than `most` numbers.
-fn judge_shown(shown: Shown, most: u32) -> Result<Option<FoundSet>, SetFault>
+fn judge_shown(shown: Shown, most: u32) -> Result<Option<Found>, Unswept>
     ensures none { IfOk result (λ found. found ≡ None →
         (is_fine shown.result ≡ true) ⊎ (most < length shown.numbers)) }
     ensures bad { IfOk result (λ found. IfSome found (λ bad.
-        IsBadSet shown.numbers shown.result bad × (length shown.numbers ≤ most))) }
-    ensures cut { (numbers : List ℕ) (why : Why) → result ≡ Err (SetFault.Cut numbers why) →
-        (numbers ≡ shown.numbers) × (shown.result.outcome ≡ outcomes.Cut why)
+        IsBadAt (Failing.Set shown.numbers) shown.result bad × (length shown.numbers ≤ most))) }
+    ensures cut { (at : Failing) (why : Why) → result ≡ Err (Unswept.Cut at why) →
+        (at ≡ Failing.Set shown.numbers) × (shown.result.outcome ≡ outcomes.Cut why)
         × (length shown.numbers ≤ most) }
-    ensures shape { result ≢ Err SetFault.BadShape }
+    ensures known { (fine : ℕ) → result ≢ Err (Unswept.ManyStates fine) }
 {
     let Shown { numbers, result } = shown;
     if numbers.len() > most as usize {
         return Ok(None);
     }
-    judge_set(numbers, result)
+    judge_run(Failing::Set(numbers), result)
 }
 
 /// Finds the least set whose run is bad, of the tried sets of a part that have at most `most` numbers. Returns `None` if the run of each of
@@ -54,42 +56,35 @@ pub(crate) fn find_larger<P: Progress>(
     script: &Script,
     part: Part,
     most: u32,
-    budget: u32,
-    shape: Shape,
+    conditions: Conditions,
     last: u32,
     progress: &mut P,
-) -> Result<Option<FoundSet>, SetFault>
+) -> Result<Option<Found>, Unswept>
     requires script { IsTrue (is_script script.now) }
-    requires least { 1 ≤ budget }
-    requires greatest { budget ≤ LARGEST_BUDGET }
-    requires last { last ≡ last_attempt Single script.now budget shape }
-    requires single { IsNoSetIn part 1 script.now budget shape }
+    requires last { last ≡ last_attempt Single script.now conditions.budget conditions.shape }
+    requires single { IsNoSetIn part 1 script.now conditions.budget conditions.shape }
     ensures none { IfOk result (λ found. found ≡ None →
-        AreSetsFineIn part most script.now budget shape) }
+        AreSetsFineIn part most script.now conditions.budget conditions.shape) }
     ensures found { IfOk result (λ found. IfSome found (λ bad.
-        IsSetFoundIn part most script.now budget shape bad.numbers bad.result)) }
-    ensures cut { (numbers : List ℕ) (why : Why) → result ≡ Err (SetFault.Cut numbers why) →
-        IsLeastCutSetIn part most script.now budget shape numbers why }
-    ensures shape { result ≡ Err SetFault.BadShape → is_shape shape ≡ false }
+        IsFoundAsSet part most script.now conditions.budget conditions.shape bad.at bad.result)) }
+    ensures cut { (at : Failing) (why : Why) → result ≡ Err (Unswept.Cut at why) →
+        IsCutAsSet part most script.now conditions.budget conditions.shape at why }
+    ensures known { (fine : ℕ) → result ≢ Err (Unswept.ManyStates fine) }
 {
     if most <= 1 {
         return Ok(None);
     }
     let states = states_worth(last, most);
     match search_states(
-        alloc, script, part, last, most, states, budget, shape, progress,
+        alloc, script, part, last, most, states, conditions, progress,
     )? {
         Searched::Shown(shown) => judge_shown(shown, most),
         Searched::Fine => Ok(None),
         Searched::FineTo(fine) => {
-            walk_sets(
-                alloc, script, part, fine, most, budget, shape, last, progress,
-            )
+            walk_sets(alloc, script, part, fine, most, conditions, last, progress)
         }
         Searched::ManyStates(fine) => {
-            walk_sets(
-                alloc, script, part, fine, most, budget, shape, last, progress,
-            )
+            walk_sets(alloc, script, part, fine, most, conditions, last, progress)
         }
     }
 }

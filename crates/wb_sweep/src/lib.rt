@@ -4,7 +4,6 @@
 
 mod all_numbers;
 pub mod every_set;
-pub mod every_set_answer;
 pub mod fault;
 mod followed;
 pub mod fork;
@@ -15,7 +14,6 @@ mod pace;
 mod pairs;
 pub mod run_known;
 mod scout;
-pub mod set_answer;
 pub mod set_sweep;
 mod set_walk;
 mod sets;
@@ -25,15 +23,13 @@ mod walk;
 
 pub use all_numbers::sweep_all;
 pub use every_set::sweep_every_set;
-pub use every_set_answer::EverySetFault;
-pub use fault::SweepFault;
+pub use fault::{SweepFault, Unswept};
 pub use fork::result_under;
 pub use found::{AllNumbers, Found, Listing, Sweep};
-pub use set_answer::{FoundSet, SetFault, SetSweep};
 pub use set_sweep::sweep_sets;
-pub use sweeping::{sweep, sweep_part};
+pub use sweeping::{sweep, sweep_part, sweep_whole};
 pub use wb_heap_model::heap::Shape;
-pub use wb_machine::RunFault;
+pub use wb_meaning::conditions::Conditions;
 pub use wb_meaning::run::{RunResult, Why};
 pub use wb_runs::failures::{Failing, Failures};
 pub use wb_runs::part::Part;

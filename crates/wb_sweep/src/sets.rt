@@ -1,23 +1,23 @@
 //! A search over sets of attempts that fail together. The runs of all smaller sets are known to be fine. The search walks along each run in
 //! which all attempts of a set but the last fail. The callers choose the size of the sets and their least number.
 
-ghost use Rattle.std.specs.Prelude.{◌≡◌, ◌≢◌, ℕ, ◌+◌, ◌<◌, ◌≤◌, List, [], ◌∷◌, ◌++◌, None, false, length, true, IfErr, IfOk, IfSome};
-ghost use Rattle.wb_meaning.specs.Run.{is_bad};
-ghost use Rattle.wb_runs.specs.Sets.{set_run, AscendsPast};
-ghost use Rattle.wb_runs.specs.Sweeps.{is_cut_outcome, is_fine};
+ghost use Rattle.std.specs.Prelude.{◌≡◌, ◌≢◌, ℕ, ◌+◌, ◌<◌, ◌≤◌, [], ◌∷◌, ◌++◌, None, false, length, true, IfOk, IfSome};
+ghost use Rattle.wb_runs.specs.Sets.{set_run};
 ghost use Rattle.wb_heap_model.specs.declared.heap.Rule.TheVariants as rules;
-ghost use Rattle.wb_meaning.specs.declared.run.Outcome.TheVariants as outcomes;
-ghost use Rattle.wb_meaning.specs.declared.run.RunResult.{RunResult};
+ghost use Rattle.wb_runs.specs.declared.failures.Failing.{Failing};
 ghost use Rattle.wb_meaning.specs.declared.run.Why.{Why};
 ghost use Rattle.wb_sweep.specs.SetSearch.{AreFewerFine, AreFewerFineWith, AreFine, AreFineWith};
-ghost use Rattle.wb_sweep.specs.SetSearch.{IsBadSet, IsCutAfter, IsCutWith, IsForkTo, IsFoundAfter, IsFoundWith};
+ghost use Rattle.wb_sweep.specs.SetSearch.{IsCutAfter, IsCutWith, IsForkTo, IsFoundAfter, IsFoundWith};
 
+use crate::fault::Unswept;
 use crate::fork::{fork_under, outcome_under};
-use crate::set_answer::{FoundSet, SetFault};
+use crate::found::Found;
+use crate::walk::judge_run;
 use wb_basics::memory::NoMemory;
 use wb_heap_model::heap::{Numbers, Rule};
 use wb_machine::{Heap, Machine};
-use wb_meaning::run::{Outcome, RunResult};
+use wb_meaning::run::Outcome;
+use wb_runs::failures::Failing;
 use wb_runs::progress::{Progress, Silent};
 use wb_runs::run_end::is_fine;
 
@@ -37,28 +37,6 @@ fn rule_for(numbers: &Numbers) -> Result<Rule, NoMemory>
     Ok(Rule::Set(numbers.try_copy()?))
 }
 
-/// Judges the run under a set. Returns the set with its run if the run is bad, `Cut` if the run is cut, and `None` if the run is fine.
-pub(crate) fn judge_set(
-    numbers: Numbers,
-    run_result: RunResult,
-) -> Result<Option<FoundSet>, SetFault>
-    ensures fine { IfOk result (λ found. found ≡ None → is_fine run_result ≡ true) }
-    ensures bad { IfOk result (λ found. IfSome found (IsBadSet numbers run_result)) }
-    ensures cut { IfErr result (λ fault. (why : Why) × (fault ≡ SetFault.Cut numbers why)
-        × (run_result.outcome ≡ outcomes.Cut why)) }
-{
-    let is_bad = match &run_result.outcome {
-        Outcome::Ended { leaks, .. } => leaks.len() > 0,
-        Outcome::Panicked(_) => true,
-        Outcome::NoCleanup => false,
-        Outcome::Cut(why) => return Err(SetFault::Cut { numbers, why: *why }),
-    };
-    Ok(is_bad.then_some(FoundSet {
-        numbers,
-        result: run_result,
-    }))
-}
-
 /// Judges the run in which the attempts of `set` and the attempt `number` fail. Returns the run if it is bad, and `None` if it is fine. The
 /// lead is a run in which the attempts of `set` fail, and `number` is its next attempt. A copy of the lead makes the judged run. The copy
 /// takes the spare memory, and leaves its own memory as spare. If the run is bad, it is made once more from its first attempt, since the
@@ -69,7 +47,7 @@ fn try_last<P: Progress>(
     number: u32,
     spare: &mut Option<Heap>,
     progress: &mut P,
-) -> Result<Option<FoundSet>, SetFault>
+) -> Result<Option<Found>, Unswept>
     requires number { number ≡ lead.now.attempts + 1 }
     requires rule { lead.now.rule ≡ rules.Set set.now }
     requires going { lead.now.over ≡ false }
@@ -78,24 +56,27 @@ fn try_last<P: Progress>(
         (set_run lead.now.script lead.now.budget lead.now.shape) set.now number 1) }
     ensures found { IfOk result (λ found. IfSome found (IsFoundWith
         (set_run lead.now.script lead.now.budget lead.now.shape) set.now number 1)) }
-    ensures cut { (numbers : List ℕ) (why : Why) → result ≡ Err (SetFault.Cut numbers why) →
+    ensures cut { (at : Failing) (why : Why) → result ≡ Err (Unswept.Cut at why) →
         IsCutWith (set_run lead.now.script lead.now.budget lead.now.shape) set.now number 1
-        numbers why }
-    ensures shape { result ≢ Err SetFault.BadShape }
+        at why }
+    ensures known { (fine : ℕ) → result ≢ Err (Unswept.ManyStates fine) }
 {
     let numbers = set_with(set, number)?;
     progress.begin_set(&numbers);
     let rule = rule_for(&numbers)?;
     let outcome = outcome_under(lead, rule, spare)?;
     if let Outcome::Cut(why) = &outcome {
-        return Err(SetFault::Cut { numbers, why: *why });
+        return Err(Unswept::Cut {
+            at: Failing::Set(numbers),
+            why: *why,
+        });
     }
     if is_fine(&outcome) {
         return Ok(None);
     }
     let same_rule = rule_for(&numbers)?;
     let run_result = lead.run_another(same_rule)?;
-    judge_set(numbers, run_result)
+    judge_run(Failing::Set(numbers), run_result)
 }
 
 /// How many attempts are made in the run in which the attempts of `numbers` fail. `numbers` is `set` with `number` added. The lead is a run
@@ -157,7 +138,7 @@ fn find_with<P: Progress>(
     more: u32,
     spare: &mut Option<Heap>,
     progress: &mut P,
-) -> Result<Option<FoundSet>, SetFault>
+) -> Result<Option<Found>, Unswept>
     requires number { number ≡ lead.now.attempts + 1 }
     requires rule { lead.now.rule ≡ rules.Set set.now }
     requires going { lead.now.over ≡ false }
@@ -169,10 +150,10 @@ fn find_with<P: Progress>(
         (set_run lead.now.script lead.now.budget lead.now.shape) set.now number more) }
     ensures found { IfOk result (λ found. IfSome found (IsFoundWith
         (set_run lead.now.script lead.now.budget lead.now.shape) set.now number more)) }
-    ensures cut { (numbers : List ℕ) (why : Why) → result ≡ Err (SetFault.Cut numbers why) →
+    ensures cut { (at : Failing) (why : Why) → result ≡ Err (Unswept.Cut at why) →
         IsCutWith (set_run lead.now.script lead.now.budget lead.now.shape) set.now number more
-        numbers why }
-    ensures shape { result ≢ Err SetFault.BadShape }
+        at why }
+    ensures known { (fine : ℕ) → result ≢ Err (Unswept.ManyStates fine) }
 {
     if more <= 1 {
         return try_last(lead, set, number, spare, progress);
@@ -195,7 +176,7 @@ fn find_along<P: Progress>(
     more: u32,
     spare: &mut Option<Heap>,
     progress: &mut P,
-) -> Result<Option<FoundSet>, SetFault>
+) -> Result<Option<Found>, Unswept>
     requires rule { lead.old.rule ≡ rules.Set set.now }
     requires first { lead.old.begun ≡ false → lead.old.steps ≡ 0 }
     requires within { lead.old.steps ≤ lead.old.budget }
@@ -210,10 +191,10 @@ fn find_along<P: Progress>(
         (set_run lead.old.script lead.old.budget lead.old.shape) set.now past more) }
     ensures found { IfOk result (λ found. IfSome found (IsFoundAfter
         (set_run lead.old.script lead.old.budget lead.old.shape) set.now past more)) }
-    ensures cut { (numbers : List ℕ) (why : Why) → result ≡ Err (SetFault.Cut numbers why) →
+    ensures cut { (at : Failing) (why : Why) → result ≡ Err (Unswept.Cut at why) →
         IsCutAfter (set_run lead.old.script lead.old.budget lead.old.shape) set.now past more
-        numbers why }
-    ensures shape { result ≢ Err SetFault.BadShape }
+        at why }
+    ensures known { (fine : ℕ) → result ≢ Err (Unswept.ManyStates fine) }
 {
     while lead.attempts() < last {
         let number = lead.attempts() + 1;
@@ -238,7 +219,7 @@ pub(crate) fn find_next<P: Progress>(
     more: u32,
     spare: &mut Option<Heap>,
     progress: &mut P,
-) -> Result<Option<FoundSet>, SetFault>
+) -> Result<Option<Found>, Unswept>
     requires number { number ≡ lead.now.attempts + 1 }
     requires rule { lead.now.rule ≡ rules.Set set.now }
     requires more { 1 ≤ more }
@@ -248,10 +229,10 @@ pub(crate) fn find_next<P: Progress>(
         AreFineWith (set_run lead.now.script lead.now.budget lead.now.shape) set.now number more) }
     ensures found { IfOk result (λ found. IfSome found (λ bad. (past < number) × IsFoundWith
         (set_run lead.now.script lead.now.budget lead.now.shape) set.now number more bad)) }
-    ensures cut { (numbers : List ℕ) (why : Why) → result ≡ Err (SetFault.Cut numbers why) →
+    ensures cut { (at : Failing) (why : Why) → result ≡ Err (Unswept.Cut at why) →
         (past < number) × IsCutWith
-        (set_run lead.now.script lead.now.budget lead.now.shape) set.now number more numbers why }
-    ensures shape { result ≢ Err SetFault.BadShape }
+        (set_run lead.now.script lead.now.budget lead.now.shape) set.now number more at why }
+    ensures known { (fine : ℕ) → result ≢ Err (Unswept.ManyStates fine) }
 {
     if number <= past {
         return Ok(None);

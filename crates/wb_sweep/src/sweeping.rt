@@ -1,7 +1,7 @@
 //! A sweep over failures: one run without failure, and a run under each failure. Each run under a failure parts from the run without
 //! failure at the first attempt that is to fail.
 
-ghost use Rattle.std.specs.Prelude.{◌≡◌, ◌≢◌, ◌+◌, ◌≤◌, ◌↔◌, None, false, true, IfErr, IfOk, IfSome};
+ghost use Rattle.std.specs.Prelude.{◌≡◌, ◌≢◌, ℕ, ◌+◌, ◌≤◌, ◌↔◌, None, false, true, IfErr, IfOk, IfSome};
 ghost use Rattle.std.specs.Prelude.{IsTrue};
 ghost use Rattle.wb_tree.specs.Sound.{is_script};
 ghost use Rattle.wb_heap_model.specs.Space.{is_shape};
@@ -14,7 +14,7 @@ ghost use Rattle.wb_sweep.specs.Meetings.{IsFineRun, IsScout};
 ghost use Rattle.wb_sweep.specs.Stretches.{AreNumbersFine};
 ghost use Rattle.wb_sweep.specs.Sweeping.{IsBadAt, IsSweep, IsSweepIn};
 
-use crate::fault::SweepFault;
+use crate::fault::{SweepFault, Unswept};
 use crate::found::{Found, Sweep};
 use crate::lead::lead_under;
 use crate::pairs::find_pair;
@@ -24,21 +24,23 @@ use std::alloc::Global;
 use wb_basics::limits::LARGEST_BUDGET;
 use wb_heap_model::heap::Shape;
 use wb_machine::{Machine, run_reporting};
-use wb_meaning::run::{Outcome, RunResult};
+use wb_meaning::conditions::Conditions;
+use wb_meaning::run::RunResult;
 use wb_runs::failures::{Failing, Failures};
 use wb_runs::part::Part;
 use wb_runs::progress::{Aim, Progress};
+use wb_runs::run_end::is_fine;
 use wb_tree::script::Script;
 
 /// Judges the run without failure. Returns `Cut` if the run is cut, and the run if it is bad and the part has number 0. Returns `None` if
 /// the run is fine, or if it is bad but the part doesn't have number 0.
-fn judge_first(part: Part, at: Failing, first: RunResult) -> Result<Option<Found>, SweepFault>
+fn judge_first(part: Part, at: Failing, first: RunResult) -> Result<Option<Found>, Unswept>
     ensures fine { IfOk result (λ found. found ≡ None → part.from ≡ 0 → is_fine first ≡ true) }
     ensures bad { IfOk result (λ found. IfSome found (λ bad.
         (part.from ≡ 0) × IsBadAt at first bad)) }
     ensures uncut { IfOk result (λ found. is_cut_outcome first.outcome ≡ false) }
     ensures cut { IfErr result (λ fault.
-        (why : Why) × (fault ≡ SweepFault.Cut at why) × (first.outcome ≡ outcomes.Cut why)) }
+        (why : Why) × (fault ≡ Unswept.Cut at why) × (first.outcome ≡ outcomes.Cut why)) }
 {
     let found = judge_run(at, first)?;
     if part.from > 0 {
@@ -51,12 +53,7 @@ fn judge_first(part: Part, at: Failing, first: RunResult) -> Result<Option<Found
 fn steps_if_fine(run_result: &RunResult) -> Option<u32>
     ensures { IfSome result (IsFineRun run_result.now) }
 {
-    let is_fine = match &run_result.outcome {
-        Outcome::Ended { leaks, .. } => leaks.len() == 0,
-        Outcome::Panicked(_) | Outcome::Cut(_) => false,
-        Outcome::NoCleanup => true,
-    };
-    is_fine.then_some(run_result.steps)
+    is_fine(&run_result.outcome).then_some(run_result.steps)
 }
 
 /// Tries the failures of a part, number by number; if they are pairs, tries the single failures instead. Returns the least failure whose
@@ -69,7 +66,7 @@ fn try_in_order<P: Progress>(
     last: u32,
     scout: &mut Option<Scout>,
     progress: &mut P,
-) -> Result<Option<Found>, SweepFault>
+) -> Result<Option<Found>, Unswept>
     requires rule { lead.old.rule ≡ rule_of failures 0 }
     requires start { (lead.old.begun ≡ false) × (lead.old.attempts ≡ 0) × (lead.old.steps ≡ 0) }
     requires well { lead.old.failed ≡ false }
@@ -84,9 +81,9 @@ fn try_in_order<P: Progress>(
         (last_attempt failures lead.old.script lead.old.budget lead.old.shape)) }
     ensures found { IfOk result (λ found. IfSome found (λ bad.
         IsFoundIn failures part lead.old.script lead.old.budget lead.old.shape bad.at bad.result)) }
-    ensures cut { (at : Failing) (why : Why) → result ≡ Err (SweepFault.Cut at why) →
+    ensures cut { (at : Failing) (why : Why) → result ≡ Err (Unswept.Cut at why) →
         IsLeastCutIn failures part lead.old.script lead.old.budget lead.old.shape at why }
-    ensures shape { result ≢ Err SweepFault.BadShape }
+    ensures known { (fine : ℕ) → result ≢ Err (Unswept.ManyStates fine) }
 {
     find_among(
         lead,
@@ -104,31 +101,29 @@ fn try_numbers<P: Progress>(
     script: &Script,
     failures: Failures,
     part: Part,
-    budget: u32,
-    shape: Shape,
+    conditions: Conditions,
     last: u32,
     steps: Option<u32>,
     progress: &mut P,
-) -> Result<Option<Found>, SweepFault>
+) -> Result<Option<Found>, Unswept>
     requires script { IsTrue (is_script script.now) }
-    requires least { 1 ≤ budget }
-    requires greatest { budget ≤ LARGEST_BUDGET }
-    requires uncut { IsUncut failures script.now budget shape }
+    requires uncut { IsUncut failures script.now conditions.budget conditions.shape }
     requires fine { part.from ≡ 0 →
-        is_fine (runs_of failures script.now budget shape 0) ≡ true }
-    requires last { last ≡ last_attempt failures script.now budget shape }
-    requires steps { IfSome steps (IsFineRun (runs_of failures script.now budget shape 0)) }
+        is_fine (runs_of failures script.now conditions.budget conditions.shape 0) ≡ true }
+    requires last { last ≡ last_attempt failures script.now conditions.budget conditions.shape }
+    requires steps { IfSome steps
+        (IsFineRun (runs_of failures script.now conditions.budget conditions.shape 0)) }
     ensures fine { IfOk result (λ found. found ≡ None →
-        AreNumbersFine (runs_of failures script.now budget shape) part
-        (last_attempt failures script.now budget shape)) }
+        AreNumbersFine (runs_of failures script.now conditions.budget conditions.shape) part
+        (last_attempt failures script.now conditions.budget conditions.shape)) }
     ensures found { IfOk result (λ found. IfSome found (λ bad.
-        IsFoundIn failures part script.now budget shape bad.at bad.result)) }
-    ensures cut { (at : Failing) (why : Why) → result ≡ Err (SweepFault.Cut at why) →
-        IsLeastCutIn failures part script.now budget shape at why }
-    ensures shape { result ≡ Err SweepFault.BadShape → is_shape shape ≡ false }
+        IsFoundIn failures part script.now conditions.budget conditions.shape bad.at bad.result)) }
+    ensures cut { (at : Failing) (why : Why) → result ≡ Err (Unswept.Cut at why) →
+        IsLeastCutIn failures part script.now conditions.budget conditions.shape at why }
+    ensures known { (fine : ℕ) → result ≢ Err (Unswept.ManyStates fine) }
 {
-    let mut lead = lead_under(alloc, script, failures.at(0).rule(), budget, shape)?;
-    let mut scout = scout_beside(&lead, failures, steps, budget)?;
+    let mut lead = lead_under(alloc, script, failures.at(0).rule(), conditions)?;
+    let mut scout = scout_beside(&lead, failures, steps, conditions.budget)?;
     try_in_order(&mut lead, failures, part, last, &mut scout, progress)
 }
 
@@ -140,30 +135,28 @@ pub(crate) fn find_later<P: Progress>(
     script: &Script,
     failures: Failures,
     part: Part,
-    budget: u32,
-    shape: Shape,
+    conditions: Conditions,
     last: u32,
     steps: Option<u32>,
     progress: &mut P,
-) -> Result<Option<Found>, SweepFault>
+) -> Result<Option<Found>, Unswept>
     requires script { IsTrue (is_script script.now) }
-    requires least { 1 ≤ budget }
-    requires greatest { budget ≤ LARGEST_BUDGET }
-    requires uncut { IsUncut failures script.now budget shape }
+    requires uncut { IsUncut failures script.now conditions.budget conditions.shape }
     requires fine { part.from ≡ 0 →
-        is_fine (runs_of failures script.now budget shape 0) ≡ true }
-    requires last { last ≡ last_attempt failures script.now budget shape }
-    requires steps { IfSome steps (IsFineRun (runs_of failures script.now budget shape 0)) }
+        is_fine (runs_of failures script.now conditions.budget conditions.shape 0) ≡ true }
+    requires last { last ≡ last_attempt failures script.now conditions.budget conditions.shape }
+    requires steps { IfSome steps
+        (IsFineRun (runs_of failures script.now conditions.budget conditions.shape 0)) }
     ensures none { IfOk result (λ found. found ≡ None →
-        IsNoneIn failures part script.now budget shape) }
+        IsNoneIn failures part script.now conditions.budget conditions.shape) }
     ensures found { IfOk result (λ found. IfSome found (λ bad.
-        IsFoundIn failures part script.now budget shape bad.at bad.result)) }
-    ensures cut { (at : Failing) (why : Why) → result ≡ Err (SweepFault.Cut at why) →
-        IsLeastCutIn failures part script.now budget shape at why }
-    ensures shape { result ≡ Err SweepFault.BadShape → is_shape shape ≡ false }
+        IsFoundIn failures part script.now conditions.budget conditions.shape bad.at bad.result)) }
+    ensures cut { (at : Failing) (why : Why) → result ≡ Err (Unswept.Cut at why) →
+        IsLeastCutIn failures part script.now conditions.budget conditions.shape at why }
+    ensures known { (fine : ℕ) → result ≢ Err (Unswept.ManyStates fine) }
 {
     let found = try_numbers(
-        alloc, script, failures, part, budget, shape, last, steps, progress,
+        alloc, script, failures, part, conditions, last, steps, progress,
     )?;
     if found.is_some() {
         return Ok(found);
@@ -172,7 +165,7 @@ pub(crate) fn find_later<P: Progress>(
         Failures::Single => Ok(None),
         Failures::Every => Ok(None),
         Failures::Persistent => Ok(None),
-        Failures::Pairs => find_pair(alloc, script, part, budget, shape, last, progress),
+        Failures::Pairs => find_pair(alloc, script, part, conditions, last, progress),
     }
 }
 
@@ -182,25 +175,26 @@ pub(crate) fn find_least<P: Progress>(
     script: &Script,
     failures: Failures,
     part: Part,
-    budget: u32,
-    shape: Shape,
+    conditions: Conditions,
     progress: &mut P,
-) -> Result<Sweep, SweepFault>
+) -> Result<Sweep, Unswept>
     requires script { IsTrue (is_script script.now) }
-    requires least { 1 ≤ budget }
-    requires greatest { budget ≤ LARGEST_BUDGET }
-    ensures swept { IfOk result (IsSweepIn failures part script.now budget shape) }
-    ensures cut { (at : Failing) (why : Why) → result ≡ Err (SweepFault.Cut at why) →
-        IsCutIn failures part script.now budget shape at why }
-    ensures few { IfOk result (λ _. last_attempt failures script.now budget shape ≤ budget + 1) }
-    ensures few_cut { (at : Failing) (why : Why) → result ≡ Err (SweepFault.Cut at why) →
-        last_attempt failures script.now budget shape ≤ budget + 1 }
-    ensures shape { (result ≡ Err SweepFault.BadShape) ↔ (is_shape shape ≡ false) }
+    ensures swept { IfOk result
+        (IsSweepIn failures part script.now conditions.budget conditions.shape) }
+    ensures cut { (at : Failing) (why : Why) → result ≡ Err (Unswept.Cut at why) →
+        IsCutIn failures part script.now conditions.budget conditions.shape at why }
+    ensures few { IfOk result (λ _.
+        last_attempt failures script.now conditions.budget conditions.shape
+        ≤ conditions.budget + 1) }
+    ensures few_cut { (at : Failing) (why : Why) → result ≡ Err (Unswept.Cut at why) →
+        last_attempt failures script.now conditions.budget conditions.shape
+        ≤ conditions.budget + 1 }
+    ensures known { (fine : ℕ) → result ≢ Err (Unswept.ManyStates fine) }
 {
-    let none = failures.at(0);
-    let first = run_reporting(alloc, script, none.rule(), budget, shape, progress)?;
+    let first = run_reporting(alloc, script, failures.at(0).rule(), conditions, progress)?;
     let attempts = attempts_in(first.trace.as_slice());
     let steps = steps_if_fine(&first);
+    let none = failures.at(0);
     if let Some(found) = judge_first(part, none, first)? {
         return Ok(Sweep {
             attempts,
@@ -209,7 +203,7 @@ pub(crate) fn find_least<P: Progress>(
     }
     progress.begin_failures(part.from.max(1), part.to.min(attempts));
     match find_later(
-        alloc, script, failures, part, budget, shape, attempts, steps, progress,
+        alloc, script, failures, part, conditions, attempts, steps, progress,
     ) {
         Ok(found) => Ok(Sweep { attempts, found }),
         Err(fault) => Err(fault),
@@ -246,13 +240,40 @@ pub fn sweep<P: Progress>(
     ensures cut { (at : Failing) (why : Why) → result ≡ Err (SweepFault.Cut at why) →
         IsCutShort failures script.now budget shape at why }
     ensures shape { (result ≡ Err SweepFault.BadShape) ↔ (is_shape shape ≡ false) }
+    ensures known { (fine : ℕ) → result ≢ Err (SweepFault.ManyStates fine) }
+{
+    if !shape.is_allowed() {
+        return Err(SweepFault::BadShape);
+    }
+    let conditions = Conditions { budget, shape };
+    match sweep_whole(alloc, script, failures, conditions, progress) {
+        Ok(swept) => Ok(swept),
+        Err(Unswept::Cut { at, why }) => Err(SweepFault::Cut { at, why }),
+        Err(Unswept::ManyStates { fine }) => Err(SweepFault::ManyStates { fine }),
+        Err(Unswept::NoMemory) => Err(SweepFault::NoMemory),
+    }
+}
+
+/// Finds what `sweep` finds, for conditions whose shape a heap may have.
+pub fn sweep_whole<P: Progress>(
+    alloc: Global,
+    script: &Script,
+    failures: Failures,
+    conditions: Conditions,
+    progress: &mut P,
+) -> Result<Sweep, Unswept>
+    requires script { IsTrue (is_script script.now) }
+    ensures swept { IfOk result (IsSweep failures script.now conditions.budget conditions.shape) }
+    ensures cut { (at : Failing) (why : Why) → result ≡ Err (Unswept.Cut at why) →
+        IsCutShort failures script.now conditions.budget conditions.shape at why }
+    ensures known { (fine : ℕ) → result ≢ Err (Unswept.ManyStates fine) }
 {
     let all = Part {
         from: 0,
         to: u32::MAX,
     };
     progress.begin(Aim::least_of(failures));
-    let swept = find_least(alloc, script, failures, all, budget, shape, progress);
+    let swept = find_least(alloc, script, failures, all, conditions, progress);
     progress.end();
     swept
 }
@@ -268,20 +289,18 @@ pub fn sweep_part<P: Progress>(
     script: &Script,
     failures: Failures,
     part: Part,
-    budget: u32,
-    shape: Shape,
+    conditions: Conditions,
     progress: &mut P,
-) -> Result<Sweep, SweepFault>
+) -> Result<Sweep, Unswept>
     requires script { IsTrue (is_script script.now) }
-    requires least { 1 ≤ budget }
-    requires greatest { budget ≤ LARGEST_BUDGET }
-    ensures swept { IfOk result (IsSweepIn failures part script.now budget shape) }
-    ensures cut { (at : Failing) (why : Why) → result ≡ Err (SweepFault.Cut at why) →
-        IsCutIn failures part script.now budget shape at why }
-    ensures shape { (result ≡ Err SweepFault.BadShape) ↔ (is_shape shape ≡ false) }
+    ensures swept { IfOk result
+        (IsSweepIn failures part script.now conditions.budget conditions.shape) }
+    ensures cut { (at : Failing) (why : Why) → result ≡ Err (Unswept.Cut at why) →
+        IsCutIn failures part script.now conditions.budget conditions.shape at why }
+    ensures known { (fine : ℕ) → result ≢ Err (Unswept.ManyStates fine) }
 {
     progress.begin(Aim::least_of(failures));
-    let swept = find_least(alloc, script, failures, part, budget, shape, progress);
+    let swept = find_least(alloc, script, failures, part, conditions, progress);
     progress.end();
     swept
 }

@@ -1,7 +1,7 @@
 //! A walk along a run from which copies part. Each copy goes on under a failure, and parts from the run before the first attempt that this
 //! failure makes fail.
 
-ghost use Rattle.std.specs.Prelude.{◌≡◌, ◌≢◌, ◌⊎◌, ◌+◌, ◌≤◌, None, true, false, length, IfOk, IfErr, IfSome};
+ghost use Rattle.std.specs.Prelude.{◌≡◌, ◌≢◌, ℕ, ◌⊎◌, ◌+◌, ◌≤◌, None, true, false, length, IfOk, IfErr, IfSome};
 ghost use Rattle.wb_meaning.specs.Run.{is_bad};
 ghost use Rattle.wb_runs.specs.Sweeps.{failing_at, is_cut_outcome, is_fine, rule_of};
 ghost use Rattle.wb_meaning.specs.declared.run.Outcome.TheVariants as outcomes;
@@ -12,7 +12,7 @@ ghost use Rattle.wb_sweep.specs.Meetings.{FineSays, IsScout};
 ghost use Rattle.wb_sweep.specs.Stretches.{AreFineFrom, IsCutFrom, IsFoundFrom};
 ghost use Rattle.wb_sweep.specs.Sweeping.{IsBadAt, IsNumbered};
 
-use crate::fault::SweepFault;
+use crate::fault::Unswept;
 use crate::followed::{Forked, follow_beside_fine};
 use crate::found::Found;
 use crate::scout::{Meeting, Scout};
@@ -24,18 +24,18 @@ use wb_runs::progress::Progress;
 
 /// Judges the run under a failure. Returns the failure and the run if the run is bad, `Cut` if the run is cut, and `None` if the run is
 /// fine. A run that only leaves is fine, and so is a run that gets no cleanup stack.
-pub(crate) fn judge_run(at: Failing, run_result: RunResult) -> Result<Option<Found>, SweepFault>
+pub(crate) fn judge_run(at: Failing, run_result: RunResult) -> Result<Option<Found>, Unswept>
     ensures fine { IfOk result (λ found. found ≡ None → is_fine run_result ≡ true) }
     ensures bad { IfOk result (λ found. IfSome found (IsBadAt at run_result)) }
     ensures uncut { IfOk result (λ found. is_cut_outcome run_result.outcome ≡ false) }
     ensures cut { IfErr result (λ fault.
-        (why : Why) × (fault ≡ SweepFault.Cut at why) × (run_result.outcome ≡ outcomes.Cut why)) }
+        (why : Why) × (fault ≡ Unswept.Cut at why) × (run_result.outcome ≡ outcomes.Cut why)) }
 {
     let is_bad = match &run_result.outcome {
         Outcome::Ended { leaks, .. } => leaks.len() > 0,
         Outcome::Panicked(_) => true,
         Outcome::NoCleanup => false,
-        Outcome::Cut(why) => return Err(SweepFault::Cut { at, why: *why }),
+        Outcome::Cut(why) => return Err(Unswept::Cut { at, why: *why }),
     };
     Ok(is_bad.then_some(Found {
         at,
@@ -45,25 +45,25 @@ pub(crate) fn judge_run(at: Failing, run_result: RunResult) -> Result<Option<Fou
 
 /// Judges the run of a fork. Returns whether the run is bad, and `Cut` if the run is cut. The fork is a copy of a run that is fine. So if
 /// the fork met the scout, the fork's run is fine too, unless the budget cuts it.
-fn judge_fork(at: Failing, forked: &Forked) -> Result<bool, SweepFault>
+fn judge_fork(at: Failing, forked: &Forked) -> Result<bool, Unswept>
     ensures fine { IfOk result (λ is_judged_bad. is_judged_bad ≡ false →
         (run_result : RunResult) → FineSays forked.now run_result → is_fine run_result ≡ true) }
     ensures bad { IfOk result (λ is_judged_bad. is_judged_bad ≡ true →
         (run_result : RunResult) → FineSays forked.now run_result → is_bad run_result ≡ true) }
-    ensures cut { IfErr result (λ fault. (why : Why) × (fault ≡ SweepFault.Cut at why)
+    ensures cut { IfErr result (λ fault. (why : Why) × (fault ≡ Unswept.Cut at why)
         × ((run_result : RunResult) → FineSays forked.now run_result →
         run_result.outcome ≡ outcomes.Cut why)) }
 {
     match forked {
         Forked::Met(Meeting::Alike) => Ok(false),
-        Forked::Met(Meeting::PastBudget) => Err(SweepFault::Cut {
+        Forked::Met(Meeting::PastBudget) => Err(Unswept::Cut {
             at,
             why: Why::Budget,
         }),
         Forked::Ran(Outcome::Ended { leaks, .. }) => Ok(leaks.len() > 0),
         Forked::Ran(Outcome::Panicked(_)) => Ok(true),
         Forked::Ran(Outcome::NoCleanup) => Ok(false),
-        Forked::Ran(Outcome::Cut(why)) => Err(SweepFault::Cut { at, why: *why }),
+        Forked::Ran(Outcome::Cut(why)) => Err(Unswept::Cut { at, why: *why }),
     }
 }
 
@@ -90,7 +90,7 @@ fn try_next<P: Progress>(
     scout: &mut Option<Scout>,
     spare: &mut Option<Heap>,
     progress: &mut P,
-) -> Result<Option<Found>, SweepFault>
+) -> Result<Option<Found>, Unswept>
     requires number { number ≡ lead.now.attempts + 1 }
     requires rule { lead.now.rule ≡ rule_of failures 0 }
     requires scout { IfSome scout.old
@@ -101,8 +101,8 @@ fn try_next<P: Progress>(
         is_fine (next_run failures lead.now) ≡ true) }
     ensures bad { IfOk result (λ found. IfSome found (λ bad. (from ≤ number)
         × IsBadAt (next_failing failures lead.now) (next_run failures lead.now) bad)) }
-    ensures cut { IfErr result (λ fault. (fault ≡ SweepFault.NoMemory) ⊎ ((why : Why) ×
-        (from ≤ number) × (fault ≡ SweepFault.Cut (next_failing failures lead.now) why)
+    ensures cut { IfErr result (λ fault. (fault ≡ Unswept.NoMemory) ⊎ ((why : Why) ×
+        (from ≤ number) × (fault ≡ Unswept.Cut (next_failing failures lead.now) why)
         × ((next_run failures lead.now).outcome ≡ outcomes.Cut why))) }
 {
     if number < from {
@@ -111,16 +111,15 @@ fn try_next<P: Progress>(
     if !lead.will_attempt() {
         return Ok(None);
     }
-    let failing = failures.at(number);
-    progress.begin_failure(failing);
+    progress.begin_failure(&failures.at(number));
     let forked = follow_beside_fine(lead, failures, number, scout, spare)?;
-    let is_bad = judge_fork(failing, &forked)?;
+    let is_bad = judge_fork(failures.at(number), &forked)?;
     if !is_bad {
         return Ok(None);
     }
-    let result = lead.run_another(failing.rule())?;
+    let result = lead.run_another(failures.at(number).rule())?;
     Ok(Some(Found {
-        at: failing,
+        at: failures.at(number),
         result,
     }))
 }
@@ -136,7 +135,7 @@ pub(crate) fn find_among<P: Progress>(
     last: u32,
     scout: &mut Option<Scout>,
     progress: &mut P,
-) -> Result<Option<Found>, SweepFault>
+) -> Result<Option<Found>, Unswept>
     requires rule { lead.old.rule ≡ rule_of failures 0 }
     requires first { lead.old.begun ≡ false → lead.old.steps ≡ 0 }
     requires within { lead.old.steps ≤ lead.old.budget }
@@ -150,10 +149,10 @@ pub(crate) fn find_among<P: Progress>(
     ensures found { IfOk result (λ found. IfSome found (λ bad.
         IsFoundFrom (failing_at failures) from
         last lead.old.script lead.old.budget lead.old.shape bad.at bad.result)) }
-    ensures cut { (at : Failing) (why : Why) → result ≡ Err (SweepFault.Cut at why) →
+    ensures cut { (at : Failing) (why : Why) → result ≡ Err (Unswept.Cut at why) →
         IsCutFrom (failing_at failures) from last lead.old.script lead.old.budget lead.old.shape at
         why }
-    ensures shape { result ≢ Err SweepFault.BadShape }
+    ensures known { (fine : ℕ) → result ≢ Err (Unswept.ManyStates fine) }
 {
     let mut spare = None;
     while lead.attempts() < last {

@@ -65,7 +65,7 @@ module _ (listing : Listing) (failures : Failures) (part : Part) (script : Scrip
   if_told (Err fault) all are text_is values_are status_is = tt
 
   -- the run without failure is cut
-  pub untold_is : (at : Failing) (why : Why) (text : List ℕ) (values : ReportValues) → IsCutWithout failures script budget shape at why
+  untold_is : (at : Failing) (why : Why) (text : List ℕ) (values : ReportValues) → IsCutWithout failures script budget shape at why
       → text ≡ cut_at_line at why → values ≡ cut_values at → IsUntold failures script budget shape text values
   untold_is at why text values cut text_is values_are = record {
     why = why;
@@ -73,3 +73,9 @@ module _ (listing : Listing) (failures : Failures) (part : Part) (script : Scrip
     text_is = text_is ∙ ap (λ f. cut_at_line f why) cut.failing;
     values_are = values_are ∙ ap cut_values cut.failing;
   }
+
+  pub if_untold : (made : Result Report NoMemory) (at : Failing) (why : Why) → IsCutWithout failures script budget shape at why
+      → IfOk made (λ r. r.text.items ≡ cut_at_line at why) → IfOk made (λ r. r.values ≡ cut_values at) → IfOk made (λ r. r.status ≡ 3)
+      → IfOk made (λ r. IsListReport listing failures part script budget shape r.text.items r.values r.status)
+  if_untold (Ok r) at why cut text_is values_are status_is = inr (inr (untold_is at why r.text.items r.values cut text_is values_are, status_is))
+  if_untold (Err fault) at why cut text_is values_are status_is = tt

@@ -38,8 +38,8 @@ use Rattle.workbench.specs.AllReport.{all_text, bad_line, number_word, told_line
 use Rattle.workbench.specs.EverySetReport.{cut_states_line, many_states_text, no_set_at_all_line}
 use Rattle.workbench.specs.LengthsReport.{range_line, table_lines}
 use Rattle.workbench.specs.RunText.{answer_word, attempt_line, end_line, leak_line, leaks_text, line, note_line, outcome_text, print_line, run_text}
-use Rattle.workbench.specs.SetsReport.{cut_several_line, cut_set_line, found_set_text, no_set_line, numbers_text, set_line, several_line, spaced, why_word}
-use Rattle.workbench.specs.TwoNumbers.{attempts_line, cut_at_line, failing_line, failing_text, found_text, none_line, refuses_line, size_text, table_text}
+use Rattle.workbench.specs.SetsReport.{no_set_line}
+use Rattle.workbench.specs.TwoNumbers.{attempts_line, cut_at_line, failing_line, failing_text, failing_word, found_text, none_line, numbers_text, refuses_line, size_text, spaced, table_text, why_word}
 
 -- ---- words and numbers
 
@@ -187,28 +187,44 @@ of_size required rises =
     both (first ++ table_text 0 rises) (line (codes "enough from " ++ decimal required))
     (both first (table_text 0 rises) (of_number (codes "required ") required refl) (of_table 0 rises)) (of_number (codes "enough from ") required refl)
 
+spaced-printable : (n : ℕ) → ArePrintable (spaced n)
+spaced-printable n = one_number (codes " ") n refl
+
+numbers-printable : (numbers : List ℕ) → ArePrintable (numbers_text numbers)
+numbers-printable [] = All-nil IsPrintable
+numbers-printable (n ∷ ns) = All-append IsPrintable (spaced n) (numbers_text ns) (spaced-printable n) (numbers-printable ns)
+
 failing_text-printable : (at : Failing) → ArePrintable (failing_text at)
-failing_text-printable (Number n) = decimal-printable n
-failing_text-printable (failings.Every n) = decimal-printable n
-failing_text-printable (failings.From n) = decimal-printable n
-failing_text-printable (Pair i j) = and_number (decimal i ++ codes " ") j (and_word (decimal i) (codes " ") (decimal-printable i) refl)
+failing_text-printable (Number n) = spaced-printable n
+failing_text-printable (failings.Every n) = spaced-printable n
+failing_text-printable (failings.From n) = spaced-printable n
+failing_text-printable (Pair i j) = All-append IsPrintable (spaced i) (spaced j) (spaced-printable i) (spaced-printable j)
+failing_text-printable (failings.Set numbers) = numbers-printable numbers
+
+after_word : (word : List ℕ) (at : Failing) → IsWord word → ArePrintable (word ++ failing_text at)
+after_word word at is = All-append IsPrintable word (failing_text at) (printable_by_test word is) (failing_text-printable at)
+
+of_why : (why : Why) → IsPrintableText (why_word why)
+of_why Budget = of_word (codes " budget") refl
+of_why Ceiling = of_word (codes " ceiling") refl
 
 pub of_cut_at : (at : Failing) (why : Why) → IsPrintableText (cut_at_line at why)
-of_cut_at at Budget =
-    let cut = All-append IsPrintable (codes "cut ") (failing_text at) (printable_by_test (codes "cut ") refl) (failing_text-printable at) in
-    of_line (codes "cut " ++ failing_text at ++ codes " budget") (and_word (codes "cut " ++ failing_text at) (codes " budget") cut refl)
-of_cut_at at Ceiling =
-    let cut = All-append IsPrintable (codes "cut ") (failing_text at) (printable_by_test (codes "cut ") refl) (failing_text-printable at) in
-    of_line (codes "cut " ++ failing_text at ++ codes " ceiling") (and_word (codes "cut " ++ failing_text at) (codes " ceiling") cut refl)
+of_cut_at at why =
+    both (codes "cut" ++ failing_text at) (why_word why)
+    (All-weaker IsPrintable IsTextByte (λ byte is. inl is) (codes "cut" ++ failing_text at) (after_word (codes "cut") at refl)) (of_why why)
 
 pub of_attempts : (attempts : ℕ) → IsPrintableText (attempts_line attempts)
 of_attempts attempts = of_number (codes "attempts ") attempts refl
 
-of_failing_line : (failing : Failing) → IsPrintableText (failing_line failing)
-of_failing_line (Number n) = of_number (codes "number ") n refl
-of_failing_line (failings.Every n) = of_number (codes "every ") n refl
-of_failing_line (failings.From n) = of_number (codes "persistent ") n refl
-of_failing_line (Pair i j) = of_numbers (codes "pair ") i (codes " ") j refl refl
+failing_word-printable : (at : Failing) → IsWord (failing_word at)
+failing_word-printable (Number n) = refl
+failing_word-printable (failings.Every n) = refl
+failing_word-printable (failings.From n) = refl
+failing_word-printable (Pair i j) = refl
+failing_word-printable (failings.Set numbers) = refl
+
+of_failing_line : (at : Failing) → IsPrintableText (failing_line at)
+of_failing_line at = of_line (failing_word at ++ failing_text at) (after_word (failing_word at) at (failing_word-printable at))
 
 pub of_found : (failing : Failing) (r : RunResult) → All ArePrintable r.lines → IsPrintableText (found_text failing r)
 of_found failing r are = both (failing_line failing) (run_text r) (of_failing_line failing) (of_run r are)
@@ -254,27 +270,6 @@ of_table_lines table = of_each range_line of_range table
 
 -- ---- sets of failures
 
-spaced-printable : (n : ℕ) → ArePrintable (spaced n)
-spaced-printable n = one_number (codes " ") n refl
-
-numbers-printable : (numbers : List ℕ) → ArePrintable (numbers_text numbers)
-numbers-printable [] = All-nil IsPrintable
-numbers-printable (n ∷ ns) = All-append IsPrintable (spaced n) (numbers_text ns) (spaced-printable n) (numbers-printable ns)
-
-after_word : (word : List ℕ) (numbers : List ℕ) → IsWord word → ArePrintable (word ++ numbers_text numbers)
-after_word word numbers is = All-append IsPrintable word (numbers_text numbers) (printable_by_test word is) (numbers-printable numbers)
-
-of_several : (numbers : List ℕ) → IsPrintableText (several_line numbers)
-of_several numbers = of_line (codes "set" ++ numbers_text numbers) (after_word (codes "set") numbers refl)
-
-of_set : (numbers : List ℕ) → IsPrintableText (set_line numbers)
-of_set [] = of_failing_line (Number 0)
-of_set (n ∷ []) = of_failing_line (Number n)
-of_set (m ∷ n ∷ ns) = of_several (m ∷ n ∷ ns)
-
-pub of_found_set : (numbers : List ℕ) (r : RunResult) → All ArePrintable r.lines → IsPrintableText (found_set_text numbers r)
-of_found_set numbers r are = both (set_line numbers) (run_text r) (of_set numbers) (of_run r are)
-
 pub of_no_set : (most : ℕ) → IsPrintableText (no_set_line most)
 of_no_set most = of_number (codes "set none to ") most refl
 
@@ -285,20 +280,6 @@ pub of_many_states : (attempts fine : ℕ) → IsPrintableText (many_states_text
 of_many_states attempts fine =
     both (attempts_line attempts ++ no_set_line fine) cut_states_line
     (both (attempts_line attempts) (no_set_line fine) (of_attempts attempts) (of_no_set fine)) (of_word (codes "cut states") refl)
-
-of_why : (why : Why) → IsPrintableText (why_word why)
-of_why Budget = of_word (codes " budget") refl
-of_why Ceiling = of_word (codes " ceiling") refl
-
-of_cut_several : (numbers : List ℕ) (why : Why) → IsPrintableText (cut_several_line numbers why)
-of_cut_several numbers why =
-    both (codes "cut" ++ numbers_text numbers) (why_word why)
-    (All-weaker IsPrintable IsTextByte (λ byte is. inl is) (codes "cut" ++ numbers_text numbers) (after_word (codes "cut") numbers refl)) (of_why why)
-
-pub of_cut_set : (numbers : List ℕ) (why : Why) → IsPrintableText (cut_set_line numbers why)
-of_cut_set [] why = of_cut_at (Number 0) why
-of_cut_set (n ∷ []) why = of_cut_at (Number n) why
-of_cut_set (m ∷ n ∷ ns) why = of_cut_several (m ∷ n ∷ ns) why
 
 -- ---- the lines of a fault, and those that come in a report's place
 

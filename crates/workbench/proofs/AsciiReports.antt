@@ -10,7 +10,7 @@ use Rattle.wb_meaning.specs.declared.run.RunResult.{RunResult}
 use Rattle.wb_tree.specs.declared.script.Script.{Script}
 use Rattle.wb_meaning.specs.Printable.{ArePrintable}
 use Rattle.wb_meaning.specs.Run.{run}
-use Rattle.wb_runs.specs.Sweeps.{failing_at, rule_for}
+use Rattle.wb_runs.specs.Sweeps.{failing_at, failing_set, rule_for}
 use Rattle.wb_runs.proofs.OnceFound.{found-run}
 use Rattle.wb_meaning.proofs.ThroughoutLemmas.{run-prints}
 use Rattle.wb_command_line.specs.declared.command.Command.{Command}
@@ -30,9 +30,9 @@ use Rattle.workbench.specs.EverySetReport.{IsEverySetReport, no_set_at_all_line}
 use Rattle.workbench.specs.PartReport.{IsFailingIn, IsReportOver, is_whole}
 use Rattle.workbench.specs.LengthsReport.{IsLengthsReport, bad_length_text, table_lines}
 use Rattle.workbench.specs.RunText.{line, run_text}
-use Rattle.workbench.specs.SetsReport.{IsSetsReport, found_set_text, no_set_line}
+use Rattle.workbench.specs.SetsReport.{IsSetsReport, no_set_line}
 use Rattle.workbench.specs.TwoNumbers.{IsFailing, IsSized, IsSizeReport, IsSweepReport, attempts_line, attempts_of, found_text, none_line}
-use Rattle.workbench.proofs.AsciiLemmas.{both, of_all_text, of_attempts, of_cut_at, of_cut_set, of_fault, of_found, of_found_set, of_many_states, of_no_set, of_no_set_at_all, of_none, of_number, of_run, of_size, of_table_lines, of_word}
+use Rattle.workbench.proofs.AsciiLemmas.{both, of_all_text, of_attempts, of_cut_at, of_fault, of_found, of_many_states, of_no_set, of_no_set_at_all, of_none, of_number, of_run, of_size, of_table_lines, of_word}
 use Rattle.workbench.proofs.SetsOver.{least-run-over, run-over}
 
 module _ (script : Script) (budget : ℕ) (shape : Shape) where
@@ -97,10 +97,10 @@ module _ (script : Script) (budget : ℕ) (shape : Shape) where
       let lines : All ArePrintable is.0.result.lines =
       subst (λ (r : RunResult). All ArePrintable r.lines) (sym ran) (run_lines (Set is.0.numbers)) in
       subst IsPrintableText (sym is.0.text_is)
-      (both (attempts_line _) (found_set_text is.0.numbers is.0.result) (of_attempts _) (of_found_set is.0.numbers is.0.result lines))
+      (both (attempts_line _) (found_text (failing_set is.0.numbers) is.0.result) (of_attempts _) (of_found (failing_set is.0.numbers) is.0.result lines))
   of_sets_report part most text values status (inr (inl is)) =
       subst IsPrintableText (sym is.0.text_is) (both (attempts_line _) (no_set_line most) (of_attempts _) (of_no_set most))
-  of_sets_report part most text values status (inr (inr is)) = subst IsPrintableText (sym is.0.text_is) (of_cut_set is.0.numbers is.0.why)
+  of_sets_report part most text values status (inr (inr is)) = subst IsPrintableText (sym is.0.text_is) (of_cut_at (failing_set is.0.numbers) is.0.why)
 
   of_every_set_report : (part : Part) (states : ℕ) (text : List ℕ) (values : ReportValues) (status : ℕ)
       → IsEverySetReport part states script budget shape text values status → IsPrintableText text
@@ -109,10 +109,10 @@ module _ (script : Script) (budget : ℕ) (shape : Shape) where
       let lines : All ArePrintable is.0.result.lines =
       subst (λ (r : RunResult). All ArePrintable r.lines) (sym ran) (run_lines (Set is.0.numbers)) in
       subst IsPrintableText (sym is.0.text_is)
-      (both (attempts_line _) (found_set_text is.0.numbers is.0.result) (of_attempts _) (of_found_set is.0.numbers is.0.result lines))
+      (both (attempts_line _) (found_text (failing_set is.0.numbers) is.0.result) (of_attempts _) (of_found (failing_set is.0.numbers) is.0.result lines))
   of_every_set_report part states text values status (inr (inl is)) =
       subst IsPrintableText (sym is.0.text_is) (both (attempts_line _) no_set_at_all_line (of_attempts _) of_no_set_at_all)
-  of_every_set_report part states text values status (inr (inr (inl is))) = subst IsPrintableText (sym is.0.text_is) (of_cut_set is.0.numbers is.0.why)
+  of_every_set_report part states text values status (inr (inr (inl is))) = subst IsPrintableText (sym is.0.text_is) (of_cut_at (failing_set is.0.numbers) is.0.why)
   of_every_set_report part states text values status (inr (inr (inr is))) = subst IsPrintableText (sym is.0.text_is) (of_many_states _ is.0.fine)
 
   of_lengths_report : (text : List ℕ) (values : ReportValues) (status : ℕ) → IsLengthsReport script budget shape text values status → IsPrintableText text

@@ -16,9 +16,9 @@ use Rattle.wb_runs.specs.declared.number_ends.NumberEnd.{NumberEnd}
 use Rattle.wb_heap_model.specs.declared.size.Rise.{Rise}
 use Rattle.wb_language.specs.Lines.{ends_line, lines_of, onto_first, pieces_from, quoted_after}
 use Rattle.workbench.specs.declared.report_values.FailingNumber.{FailingNumber}
-use Rattle.workbench.specs.declared.report_values.FailingNumber.TheVariants.{At, Length, Never, Set}
+use Rattle.workbench.specs.declared.report_values.FailingNumber.TheVariants.{At, Length, Never}
 use Rattle.workbench.specs.declared.report_values.ReportValues.{ReportValues}
-use Rattle.workbench.specs.JsonReport.{count, count_or_null, failing_number, failures_kind, line_string, line_strings, common_members, range_pair, range_pairs, report_object, rise_pair, rise_pairs, set_value, told_pair, told_pairs}
+use Rattle.workbench.specs.JsonReport.{count, count_or_null, failing_number, failures_kind, line_string, line_strings, common_members, range_pair, range_pairs, report_object, rise_pair, rise_pairs, told_pair, told_pairs}
 
 -- ---- no fractions
 
@@ -36,19 +36,15 @@ failures_have_none Every = refl
 failures_have_none Pairs = refl
 failures_have_none Persistent = refl
 
-set_has_none : (set : Option (List ℕ)) → has_float (set_value set) ≡ false
-set_has_none None = refl
-set_has_none (Some numbers) = each_has_none count (λ n. refl) numbers
-
-number_has_none : (number : Option FailingNumber) (set : Option (List ℕ)) → has_float (failing_number number set) ≡ false
-number_has_none None set = refl
-number_has_none (Some Never) set = refl
-number_has_none (Some (At (Number n))) set = refl
-number_has_none (Some (At (failings.Every n))) set = refl
-number_has_none (Some (At (failings.From n))) set = refl
-number_has_none (Some (At (Pair i j))) set = refl
-number_has_none (Some (Length length)) set = refl
-number_has_none (Some Set) set = set_has_none set
+number_has_none : (number : Option FailingNumber) → has_float (failing_number number) ≡ false
+number_has_none None = refl
+number_has_none (Some Never) = refl
+number_has_none (Some (At (Number n))) = refl
+number_has_none (Some (At (failings.Every n))) = refl
+number_has_none (Some (At (failings.From n))) = refl
+number_has_none (Some (At (Pair i j))) = refl
+number_has_none (Some (At (failings.Set numbers))) = each_has_none count (λ n. refl) numbers
+number_has_none (Some (Length length)) = refl
 
 lines_have_none : (text : List ℕ) → has_float (line_strings text) ≡ false
 lines_have_none text = each_has_none line_string (λ line. refl) (lines_of text)
@@ -72,21 +68,21 @@ report_has_none T.Lengths text values status =
     rw (
       count_has_none values.attempts,
       lines_have_none text,
-      number_has_none values.number values.set,
+      number_has_none values.number,
       ranges_have_none values.ranges,
       count_has_none values.required,
       rises_have_none values.rises,
     ) refl
 report_has_none (T.Run rule) text values status =
-    rw (count_has_none values.attempts, lines_have_none text, number_has_none values.number values.set, count_has_none values.required, rises_have_none values.rises) refl
+    rw (count_has_none values.attempts, lines_have_none text, number_has_none values.number, count_has_none values.required, rises_have_none values.rises) refl
 report_has_none T.Size text values status =
-    rw (count_has_none values.attempts, lines_have_none text, number_has_none values.number values.set, count_has_none values.required, rises_have_none values.rises) refl
+    rw (count_has_none values.attempts, lines_have_none text, number_has_none values.number, count_has_none values.required, rises_have_none values.rises) refl
 report_has_none (T.Sweep (S.Least failures) part) text values status =
     rw (
       count_has_none values.attempts,
       failures_have_none failures,
       lines_have_none text,
-      number_has_none values.number values.set,
+      number_has_none values.number,
       count_has_none values.required,
       rises_have_none values.rises,
     ) refl
@@ -96,7 +92,7 @@ report_has_none (T.Sweep (S.All failures) part) text values status =
       count_has_none values.attempts,
       failures_have_none failures,
       lines_have_none text,
-      number_has_none values.number values.set,
+      number_has_none values.number,
       count_has_none values.required,
       rises_have_none values.rises,
     ) refl
@@ -106,7 +102,7 @@ report_has_none (T.Sweep (S.Ends failures) part) text values status =
       count_has_none values.attempts,
       failures_have_none failures,
       lines_have_none text,
-      number_has_none values.number values.set,
+      number_has_none values.number,
       count_has_none values.required,
       rises_have_none values.rises,
     ) refl
@@ -114,7 +110,7 @@ report_has_none (T.Sweep (S.Sets most) part) text values status =
     rw (
       count_has_none values.attempts,
       lines_have_none text,
-      number_has_none values.number values.set,
+      number_has_none values.number,
       count_has_none values.required,
       rises_have_none values.rises,
     ) refl
@@ -122,7 +118,7 @@ report_has_none (T.Sweep (S.EverySet states) part) text values status =
     rw (
       count_has_none values.attempts,
       lines_have_none text,
-      number_has_none values.number values.set,
+      number_has_none values.number,
       count_has_none values.required,
       rises_have_none values.rises,
     ) refl
@@ -131,7 +127,7 @@ report_has_none (T.Check (S.Least failures)) text values status =
       count_has_none values.attempts,
       failures_have_none failures,
       lines_have_none text,
-      number_has_none values.number values.set,
+      number_has_none values.number,
       count_has_none values.required,
       rises_have_none values.rises,
     ) refl
@@ -141,7 +137,7 @@ report_has_none (T.Check (S.All failures)) text values status =
       count_has_none values.attempts,
       failures_have_none failures,
       lines_have_none text,
-      number_has_none values.number values.set,
+      number_has_none values.number,
       count_has_none values.required,
       rises_have_none values.rises,
     ) refl
@@ -151,7 +147,7 @@ report_has_none (T.Check (S.Ends failures)) text values status =
       count_has_none values.attempts,
       failures_have_none failures,
       lines_have_none text,
-      number_has_none values.number values.set,
+      number_has_none values.number,
       count_has_none values.required,
       rises_have_none values.rises,
     ) refl
@@ -159,7 +155,7 @@ report_has_none (T.Check (S.Sets most)) text values status =
     rw (
       count_has_none values.attempts,
       lines_have_none text,
-      number_has_none values.number values.set,
+      number_has_none values.number,
       count_has_none values.required,
       rises_have_none values.rises,
     ) refl
@@ -167,7 +163,7 @@ report_has_none (T.Check (S.EverySet states)) text values status =
     rw (
       count_has_none values.attempts,
       lines_have_none text,
-      number_has_none values.number values.set,
+      number_has_none values.number,
       count_has_none values.required,
       rises_have_none values.rises,
     ) refl

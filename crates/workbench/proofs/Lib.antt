@@ -3,7 +3,7 @@ pub mod AnswerLemmas
 pub mod AsciiLemmas
 pub mod AsciiReports
 pub mod BriefLemmas
-pub mod EverySetLemmas
+pub mod SweptReports
 pub mod Hexadecimal
 pub mod JsonLemmas
 pub mod KnownBytesLemmas
@@ -15,7 +15,6 @@ pub mod OneSetReport
 pub mod PrintableLines
 pub mod ProgramLemmas
 pub mod RiseLemmas
-pub mod SetsLemmas
 pub mod SetsOver
 pub mod WordsLemmas
 pub mod WorkedEverySets

@@ -6,6 +6,7 @@ use Rattle.wb_runs.specs.declared.part.Part.{Part}
 use Rattle.wb_tree.specs.declared.script.Script.{Script}
 use Rattle.wb_runs.specs.EverySet.{IsEverySetAnswerIn}
 use Rattle.wb_runs.specs.SetAnswers.{SetAnswer, found, cut, none}
+use Rattle.wb_runs.specs.Sweeps.{failing_set}
 use Rattle.wb_runs.proofs.EverySetAnswers.{once-of-every-set}
 use Rattle.wb_command_line.specs.Spelled.{whole}
 use Rattle.wb_command_line.specs.declared.command.Command.{Command}
@@ -15,15 +16,14 @@ use Rattle.wb_command_line.specs.declared.command.Task.{Task}
 use Rattle.wb_command_line.specs.declared.command.Task.TheVariants as T
 use Rattle.wb_script.proofs.one_script.FaultLaws.{no_fault}
 use Rattle.wb_script.proofs.one_script.ScriptLaws.{script_once}
-use Rattle.workbench.specs.declared.report_values.FailingNumber.TheVariants.{Never}
+use Rattle.workbench.specs.declared.report_values.FailingNumber.TheVariants.{At, Never}
 use Rattle.workbench.specs.declared.report_values.ReportValues.{ReportValues}
 use Rattle.workbench.specs.EverySetReport.{IsEverySetReport, no_set_at_all_line}
 use Rattle.workbench.specs.PartReport.{is_whole}
 use Rattle.workbench.specs.Report.{IsReport, IsReportOfScript, IsTaskReport}
-use Rattle.workbench.specs.ReportValues.{cut_set_values, set_values, sweep_values}
+use Rattle.workbench.specs.ReportValues.{cut_values, sweep_values}
 use Rattle.workbench.specs.SearchReport.{IsCheckReport, IsSearchReport}
-use Rattle.workbench.specs.SetsReport.{cut_set_line, found_set_text}
-use Rattle.workbench.specs.TwoNumbers.{attempts_line, attempts_of}
+use Rattle.workbench.specs.TwoNumbers.{attempts_line, attempts_of, cut_at_line, found_text}
 use Rattle.workbench.proofs.OneReport.{Alike, after-size, never_both, of_fault, one_cut, one_search, one_task}
 use Rattle.workbench.proofs.SetsOver.{least-cut-in, least-found-in, none-of-any-size-in, part_over}
 
@@ -40,13 +40,13 @@ module _ (part : Part) (script : Script) (budget : ℕ) (shape : Shape) where
   tried = part_over script budget shape is_all part
 
   abbrev told_text : SetAnswer → List ℕ
-  told_text (found numbers result) = attempts_line attempts ++ found_set_text numbers result
-  told_text (cut numbers why) = cut_set_line numbers why
+  told_text (found numbers result) = attempts_line attempts ++ found_text (failing_set numbers) result
+  told_text (cut numbers why) = cut_at_line (failing_set numbers) why
   told_text none = attempts_line attempts ++ no_set_at_all_line
 
   abbrev told_values : SetAnswer → ReportValues
-  told_values (found numbers result) = set_values attempts numbers
-  told_values (cut numbers why) = cut_set_values numbers
+  told_values (found numbers result) = sweep_values attempts (At (failing_set numbers))
+  told_values (cut numbers why) = cut_values (failing_set numbers)
   told_values none = sweep_values attempts Never
 
   abbrev told_status : SetAnswer → ℕ

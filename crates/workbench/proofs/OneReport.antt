@@ -7,9 +7,6 @@ use Rattle.wb_runs.specs.declared.failures.Failures.{Failures}
 use Rattle.wb_runs.specs.declared.number_ends.NumberEnd.{NumberEnd}
 use Rattle.wb_runs.specs.declared.part.Part.{Part}
 use Rattle.wb_heap_model.specs.declared.heap.Shape.{Shape}
-use Rattle.wb_meaning.specs.declared.run.Outcome.{Outcome}
-use Rattle.wb_meaning.specs.declared.run.Outcome.TheVariants.{Cut}
-use Rattle.wb_meaning.specs.declared.run.Why.{Why}
 use Rattle.wb_tree.specs.declared.script.Script.{Script}
 use Rattle.wb_heap_model.specs.declared.size.Rise.{Rise}
 use Rattle.wb_runs.specs.Parts.{IsNoneIn}
@@ -21,7 +18,7 @@ use Rattle.wb_basics.specs.declared.limits.TheConstants.{CEILING}
 use Rattle.wb_runs.specs.Lengths.{end_in, IsLengthTable}
 use Rattle.wb_runs.proofs.LengthAnswers.{bad-length-some, once-bad-length}
 use Rattle.wb_runs.proofs.LengthTables.{one-table}
-use Rattle.wb_runs.proofs.OnceFound.{cut-some, found-some, found-uncut, once-cut, once-found}
+use Rattle.wb_runs.proofs.OnceFound.{cut-some, found-some, found-uncut, once-cut, once-found, one-why}
 use Rattle.wb_runs.proofs.OnceInPart.{cut_or_uncut, cut-some-in, found-some-in, found-uncut-in, least-bad-some, once-cut-in, once-found-in, once-least-bad}
 use Rattle.wb_command_line.specs.declared.command.Command.{Command}
 use Rattle.wb_command_line.specs.declared.command.Search.{Search}
@@ -50,9 +47,6 @@ use Rattle.workbench.proofs.OneSetReport.{one_sets}
 abbrev pub Alike : List ℕ → ReportValues → List ℕ → ReportValues → Type 0
 Alike text values text' figures' = (text ≡ text') × (values ≡ figures')
 
-one_why : (a b : Why) (outcome : Outcome) → outcome ≡ Cut a → outcome ≡ Cut b → a ≡ b
-one_why a b outcome e f = cc
-
 -- ---- how long the heap must be
 
 module _ (script : Script) (budget : ℕ) (shape : Shape) where
@@ -79,7 +73,7 @@ module _ (script : Script) (budget : ℕ) (shape : Shape) where
   pub one_cut : (text text' : List ℕ) (values figures' : ReportValues) → IsUnsized script budget shape text values → IsUnsized script budget shape text' figures'
       → Alike text values text' figures'
   one_cut text text' values figures' s t =
-      let why = one_why s.why t.why _ s.cut t.cut in
+      let why = one-why s.why t.why _ s.cut t.cut in
       (s.text_is ∙ ap (cut_at_line (Number 0)) why ∙ sym t.text_is, s.values_are ∙ sym t.values_are)
 
   pub never_both : (text text' : List ℕ) (values figures' : ReportValues) → IsSized script budget shape text values → IsUnsized script budget shape text' figures' → ⊥
@@ -203,7 +197,7 @@ module _ (failures : Failures) (script : Script) (budget : ℕ) (shape : Shape) 
     one_list listing text text' values figures' status status' (inr (inr (s, e))) (inl (t, f)) = absurd (cut_or_uncut failures part script budget shape s.why s.cut t.uncut)
     one_list listing text text' values figures' status status' (inr (inr (s, e))) (inr (inl t)) = absurd (cut_or_uncut failures part script budget shape s.why s.cut t.uncut)
     one_list listing text text' values figures' status status' (inr (inr (s, e))) (inr (inr (t, f))) =
-        let why = one_why s.why t.why _ s.cut t.cut in
+        let why = one-why s.why t.why _ s.cut t.cut in
         ((s.text_is ∙ ap (cut_at_line (failing_at failures 0)) why ∙ sym t.text_is, s.values_are ∙ sym t.values_are), e ∙ sym f)
 
 -- ---- all lengths

@@ -5,11 +5,13 @@ use Rattle.wb_heap_model.specs.declared.heap.Shape.{Shape}
 use Rattle.wb_runs.specs.declared.part.Part.{Part}
 use Rattle.wb_tree.specs.declared.script.Script.{Script}
 use Rattle.wb_runs.specs.SetParts.{IsNoSetIn, IsSetCutIn, IsSetFoundIn}
+use Rattle.wb_runs.specs.Sweeps.{failing_set}
+use Rattle.workbench.specs.declared.report_values.FailingNumber.TheVariants.{At}
 use Rattle.workbench.specs.declared.report_values.ReportValues.{ReportValues}
 use Rattle.workbench.specs.PartReport.{is_whole}
-use Rattle.workbench.specs.ReportValues.{cut_set_values, set_values}
-use Rattle.workbench.specs.SetsReport.{IsFailingSet, IsNoFailingSet, IsSetsReport, IsUnsweptSet, cut_set_line, found_set_text}
-use Rattle.workbench.specs.TwoNumbers.{attempts_line, attempts_of}
+use Rattle.workbench.specs.ReportValues.{cut_values, sweep_values}
+use Rattle.workbench.specs.SetsReport.{IsFailingSet, IsNoFailingSet, IsSetsReport, IsUnsweptSet}
+use Rattle.workbench.specs.TwoNumbers.{attempts_line, attempts_of, cut_at_line, found_text}
 use Rattle.workbench.proofs.OneSet.{cut-set-some, once-cut-set, once-set, set-some, set-uncut}
 use Rattle.workbench.proofs.SetsOver.{cut-in, found-in, none-in, part_over}
 
@@ -30,19 +32,19 @@ module _ (part : Part) (most : ℕ) (script : Script) (budget : ℕ) (shape : Sh
       → IsFailingSet part most script budget shape text' figures' → (text ≡ text') × (values ≡ figures')
   one_failing_set text text' values figures' s t =
       let (same, results) = once-set tried most script budget shape s.numbers t.numbers s.result t.result (found_here text values s) (found_here text' figures' t) in
-      let words : found_set_text s.numbers s.result ≡ found_set_text t.numbers t.result =
-      ap (λ numbers. found_set_text numbers s.result) same ∙ ap (found_set_text t.numbers) results in
+      let words : found_text (failing_set s.numbers) s.result ≡ found_text (failing_set t.numbers) t.result =
+      ap (λ numbers. found_text (failing_set numbers) s.result) same ∙ ap (found_text (failing_set t.numbers)) results in
       let attempts : ℕ = attempts_of Single script budget shape in (
         s.text_is ∙ ap (λ l. attempts_line attempts ++ l) words ∙ sym t.text_is,
-        s.values_are ∙ ap (set_values attempts) same ∙ sym t.values_are,
+        s.values_are ∙ ap (λ numbers. sweep_values attempts (At (failing_set numbers))) same ∙ sym t.values_are,
       )
 
   one_unswept_set : (text text' : List ℕ) (values figures' : ReportValues) → IsUnsweptSet part most script budget shape text values
       → IsUnsweptSet part most script budget shape text' figures' → (text ≡ text') × (values ≡ figures')
   one_unswept_set text text' values figures' s t =
       let (same, why) = once-cut-set tried most script budget shape s.numbers t.numbers s.why t.why (cut_here text values s) (cut_here text' figures' t) in (
-        s.text_is ∙ ap (λ numbers. cut_set_line numbers s.why) same ∙ ap (cut_set_line t.numbers) why ∙ sym t.text_is,
-        s.values_are ∙ ap cut_set_values same ∙ sym t.values_are,
+        s.text_is ∙ ap (λ numbers. cut_at_line (failing_set numbers) s.why) same ∙ ap (cut_at_line (failing_set t.numbers)) why ∙ sym t.text_is,
+        s.values_are ∙ ap (λ numbers. cut_values (failing_set numbers)) same ∙ sym t.values_are,
       )
 
   found_or_cut : (text text' : List ℕ) (values figures' : ReportValues) → IsFailingSet part most script budget shape text values

@@ -8,11 +8,13 @@ use Rattle.wb_heap_model.specs.declared.heap.Answer.TheVariants.{Granted, Simula
 use Rattle.wb_meaning.specs.declared.run.Outcome.TheVariants.{Ended}
 use Rattle.wb_meaning.specs.declared.run.RunResult.{RunResult}
 use Rattle.wb_command_line.specs.Spelled.{whole}
-use Rattle.workbench.specs.declared.report_values.FailingNumber.TheVariants.{Never}
-use Rattle.workbench.specs.EverySetReport.{every_set_text, many_states_text}
+use Rattle.wb_runs.specs.declared.failures.Failing.TheVariants.{Set}
+use Rattle.workbench.specs.declared.report_values.FailingNumber.TheVariants.{At, Never}
+use Rattle.workbench.specs.EverySetReport.{many_states_text, no_set_at_all_line}
 use Rattle.workbench.specs.JsonReport.{json_text, common_members, report_object}
-use Rattle.workbench.specs.ReportValues.{both_values, cut_set_values, many_states_values, no_values, set_values, size_values, sweep_values}
+use Rattle.workbench.specs.ReportValues.{both_values, cut_values, many_states_values, no_values, size_values, sweep_values}
 use Rattle.workbench.specs.RunText.{note_line, attempt_line, leak_line}
+use Rattle.workbench.specs.TwoNumbers.{sweep_text}
 
 -- a cell that is never freed, where two requests fail
 abbrev forgotten_name : RunResult
@@ -24,12 +26,12 @@ forgotten_name = record {
   steps = 4;
 }
 
-found-text : every_set_text (record { attempts = 2; found = Some (record { numbers = 2 ∷ 3 ∷ []; result = forgotten_name }) })
+found-text : sweep_text no_set_at_all_line (record { attempts = 2; found = Some (record { at = Set (2 ∷ 3 ∷ []); result = forgotten_name }) })
     ≡ codes "attempts 2\nset 2 3\nattempt 1 length 144 place 0 granted\nattempt 2 length 32 place 144 simulated\nattempt 3 length 48 place 144 simulated\nended\nleaks 1\nleak 1 length 144 place 0\nsteps 4\n"
 unfolding digits note_line attempt_line leak_line
 found-text = refl
 
-none-text : every_set_text (record { attempts = 12; found = None }) ≡ codes "attempts 12\nset none\n"
+none-text : sweep_text no_set_at_all_line (record { attempts = 12; found = None }) ≡ codes "attempts 12\nset none\n"
 unfolding digits
 none-text = refl
 
@@ -37,7 +39,7 @@ many-text : many_states_text 6 1 ≡ codes "attempts 6\nset none to 1\ncut state
 unfolding digits
 many-text = refl
 
-found-json : json_text (T.Sweep (S.EverySet 100000) whole) [] (set_values 3 (3 ∷ 4 ∷ 5 ∷ [])) 1
+found-json : json_text (T.Sweep (S.EverySet 100000) whole) [] (sweep_values 3 (At (Set (3 ∷ 4 ∷ 5 ∷ [])))) 1
     ≡ codes "{\"attempts\":3,\"kind\":\"sets\",\"lines\":[],\"most\":null,\"number\":[3,4,5],\"required\":null,\"rises\":null,\"status\":1,\"version\":3}\n"
 unfolding serde_json_on_literals digits report_object common_members
 found-json = refl
@@ -47,7 +49,7 @@ check_every_set-json : json_text (T.Check (S.EverySet 5)) [] (both_values (size_
 unfolding serde_json_on_literals digits report_object common_members
 check_every_set-json = refl
 
-cut-json : json_text (T.Sweep (S.EverySet 1) whole) [] (cut_set_values (2 ∷ 3 ∷ [])) 3
+cut-json : json_text (T.Sweep (S.EverySet 1) whole) [] (cut_values (Set (2 ∷ 3 ∷ []))) 3
     ≡ codes "{\"attempts\":null,\"kind\":\"sets\",\"lines\":[],\"most\":null,\"number\":null,\"required\":null,\"rises\":null,\"status\":3,\"version\":3}\n"
 unfolding serde_json_on_literals digits report_object common_members
 cut-json = refl

@@ -26,7 +26,7 @@ use Rattle.workbench.specs.ReportValues.{all_values, both_values, cut_values, no
 use Rattle.workbench.specs.JsonReport.{json_text, line_string, line_strings, common_members, report_object}
 use Rattle.workbench.specs.Report.{fault_line}
 use Rattle.workbench.specs.RunText.{run_text, run_status, outcome_text, outcome_status, note_line, attempt_line, leak_line}
-use Rattle.workbench.specs.TwoNumbers.{cut_at_line, failing_line, sweep_text}
+use Rattle.workbench.specs.TwoNumbers.{cut_at_line, failing_line, none_line, sweep_text}
 
 -- a cell that is never freed
 abbrev forgotten_cell : RunResult
@@ -142,12 +142,12 @@ too_many-line = refl
 -- ---- what a sweep found
 
 -- over numbers and over rates, where a cell is never freed without any failure
-number-text : sweep_text Single (record { attempts = 2; found = Some (record { at = failings.Number 0; result = forgotten_cell }) })
+number-text : sweep_text (none_line Single) (record { attempts = 2; found = Some (record { at = failings.Number 0; result = forgotten_cell }) })
     ≡ codes "attempts 2\nnumber 0\nattempt 1 length 144 place 0 granted\nattempt 2 length 32 place 144 granted\nended\nleaks 1\nleak 2 length 32 place 144\nsteps 1\n"
 unfolding digits note_line attempt_line leak_line
 number-text = refl
 
-every-text : sweep_text Every (record { attempts = 2; found = Some (record { at = failings.Every 0; result = forgotten_cell }) })
+every-text : sweep_text (none_line Every) (record { attempts = 2; found = Some (record { at = failings.Every 0; result = forgotten_cell }) })
     ≡ codes "attempts 2\nevery 0\nattempt 1 length 144 place 0 granted\nattempt 2 length 32 place 144 granted\nended\nleaks 1\nleak 2 length 32 place 144\nsteps 1\n"
 unfolding digits note_line attempt_line leak_line
 every-text = refl
@@ -160,19 +160,19 @@ cut-lines : (cut_at_line (failings.Every 12) Budget ≡ codes "cut 12 budget\n")
 unfolding digits note_line attempt_line leak_line
 cut-lines = (refl, refl, refl)
 
-number_none-text : sweep_text Single (record { attempts = 10; found = None }) ≡ codes "attempts 10\nnumber none\n"
+number_none-text : sweep_text (none_line Single) (record { attempts = 10; found = None }) ≡ codes "attempts 10\nnumber none\n"
 unfolding digits note_line attempt_line leak_line
 number_none-text = refl
 
-every_none-text : sweep_text Every (record { attempts = 10; found = None }) ≡ codes "attempts 10\nevery none\n"
+every_none-text : sweep_text (none_line Every) (record { attempts = 10; found = None }) ≡ codes "attempts 10\nevery none\n"
 unfolding digits note_line attempt_line leak_line
 every_none-text = refl
 
-pair_none-text : sweep_text Pairs (record { attempts = 10; found = None }) ≡ codes "attempts 10\npair none\n"
+pair_none-text : sweep_text (none_line Pairs) (record { attempts = 10; found = None }) ≡ codes "attempts 10\npair none\n"
 unfolding digits note_line attempt_line leak_line
 pair_none-text = refl
 
-persistent_none-text : sweep_text Persistent (record { attempts = 10; found = None }) ≡ codes "attempts 10\npersistent none\n"
+persistent_none-text : sweep_text (none_line Persistent) (record { attempts = 10; found = None }) ≡ codes "attempts 10\npersistent none\n"
 unfolding digits note_line attempt_line leak_line
 persistent_none-text = refl
 

@@ -26,16 +26,10 @@ pub record IsReported (command : Command) (input : Option (List ℕ)) (text : Li
   pub report : IsReport command bytes lines values status
   pub text_is : text ≡ laid_out command lines values status
 
--- what a report is made of: the bytes that were read, and of its values the failure or the set that it names, the sets that are known
--- where more states were met than may be, the rises, the ranges of lengths, and all numbers that are told of
+-- what a report is made of: the bytes that were read, and its values
 pub record AreFindings (bytes : List ℕ) (values : ReportValues) (findings : Findings) : Type 0 where
   pub bytes_are : findings.bytes.items ≡ bytes
-  pub at_is : findings.at ≡ values.named
-  pub set_is : findings.set ≡ values.set
-  pub fine_is : findings.fine ≡ values.fine
-  pub rises_are : findings.rises ≡ values.rises
-  pub ranges_are : findings.ranges ≡ values.ranges
-  pub all_are : findings.all ≡ values.all
+  pub values_are : findings.values ≡ values
 
 -- the report, and what it is made of
 pub record IsReportOf (command : Command) (input : Option (List ℕ)) (text : List ℕ) (status : ℕ) (findings : Findings) : Type 0 where

@@ -2,7 +2,6 @@
 -- in one run leaks or panics, of all sets (`wb_runs`, `specs/Sets.antt`) or of those of a part (`EverySet.antt`). A set is spoken of as
 -- `--failures` does. Where more states were met than were allowed, it is said of which sets the runs are known.
 use Rattle.std.specs.Prelude.{◌≡◌, ◌⊎◌, ◌+◌, ◌≤◌, ℕ, List, ◌++◌, Bool, false, true, codes}
-use Rattle.std.specs.Option.{option_map_or}
 use Rattle.wb_runs.specs.declared.failures.Failures.TheVariants.{Single}
 use Rattle.wb_heap_model.specs.declared.heap.Shape.{Shape}
 use Rattle.wb_runs.specs.declared.part.Part.{Part}
@@ -11,30 +10,25 @@ use Rattle.wb_meaning.specs.declared.run.Why.{Why}
 use Rattle.wb_tree.specs.declared.script.Script.{Script}
 use Rattle.wb_runs.specs.EverySet.{IsLeastSetCutIn, IsLeastSetFoundIn, IsNoSetOfAnySizeIn}
 use Rattle.wb_runs.specs.Sets.{AreAllSetsFine, IsLeastBadSet, IsLeastCutSet}
+use Rattle.wb_runs.specs.Sweeps.{failing_set}
 use Rattle.wb_runs.specs.Met.{AreManyStatesIn}
-use Rattle.wb_sweep.specs.declared.set_answer.SetSweep.{SetSweep}
 use Rattle.wb_command_line.specs.declared.command.Search.{Search}
 use Rattle.wb_command_line.specs.declared.command.Search.TheVariants.{EverySet}
 use Rattle.wb_command_line.specs.declared.command.Task.{Task}
 use Rattle.wb_command_line.specs.declared.command.Task.TheVariants as T
-use Rattle.workbench.specs.declared.report_values.FailingNumber.TheVariants.{Never}
+use Rattle.workbench.specs.declared.report_values.FailingNumber.TheVariants.{At, Never}
 use Rattle.workbench.specs.declared.report_values.ReportValues.{ReportValues}
 use Rattle.workbench.specs.PartReport.{is_whole}
-use Rattle.workbench.specs.ReportValues.{cut_set_values, many_states_values, set_values, sweep_values}
+use Rattle.workbench.specs.ReportValues.{cut_values, many_states_values, sweep_values}
 use Rattle.workbench.specs.RunText.{line}
-use Rattle.workbench.specs.SetsReport.{IsNoSetOver, cut_set_line, found_set_text, no_set_line}
-use Rattle.workbench.specs.TwoNumbers.{attempts_line, attempts_of}
+use Rattle.workbench.specs.SetsReport.{IsNoSetOver, no_set_line}
+use Rattle.workbench.specs.TwoNumbers.{attempts_line, attempts_of, cut_at_line, found_text}
 
 -- ---- the lines
 
 -- no set is found, however many attempts it has
 abbrev pub no_set_at_all_line : List ℕ
 no_set_at_all_line = line (codes "set none")
-
--- what a sweep over all sets found, as it is printed
-abbrev pub every_set_text : SetSweep → List ℕ
-every_set_text sweep =
-    attempts_line sweep.attempts ++ option_map_or (λ found. found_set_text found.numbers found.result) sweep.found no_set_at_all_line
 
 -- more states were met than were allowed
 abbrev pub cut_states_line : List ℕ
@@ -69,8 +63,8 @@ pub record IsLeastFailingSet (part : Part) (script : Script) (budget : ℕ) (sha
   pub numbers : List ℕ
   pub result : RunResult
   pub found : IsLeastSetFoundOver (is_whole part) part script budget shape numbers result
-  pub text_is : text ≡ attempts_line (attempts_of Single script budget shape) ++ found_set_text numbers result
-  pub values_are : values ≡ set_values (attempts_of Single script budget shape) numbers
+  pub text_is : text ≡ attempts_line (attempts_of Single script budget shape) ++ found_text (failing_set numbers) result
+  pub values_are : values ≡ sweep_values (attempts_of Single script budget shape) (At (failing_set numbers))
 
 -- the run leaks or panics under no set, and is cut under none, however many attempts it has
 pub record IsNoFailingSetAtAll (part : Part) (script : Script) (budget : ℕ) (shape : Shape) (text : List ℕ) (values : ReportValues) : Type 0 where
@@ -84,8 +78,8 @@ pub record IsUnsweptEverySet (part : Part) (script : Script) (budget : ℕ) (sha
   pub numbers : List ℕ
   pub why : Why
   pub cut : IsLeastSetCutOver (is_whole part) part script budget shape numbers why
-  pub text_is : text ≡ cut_set_line numbers why
-  pub values_are : values ≡ cut_set_values numbers
+  pub text_is : text ≡ cut_at_line (failing_set numbers) why
+  pub values_are : values ≡ cut_values (failing_set numbers)
 
 -- There is none: more states were met than were allowed (`wb_states`, `Met.antt`). The run leaks, panics or is cut under no set of at most
 -- so many attempts, which is at least one; the states are those under sets of one attempt more. It isn't said that this number is the greatest.

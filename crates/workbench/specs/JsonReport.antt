@@ -21,7 +21,7 @@ use Rattle.wb_runs.specs.declared.run_end.RunEnd.{RunEnd}
 use Rattle.wb_heap_model.specs.declared.size.Rise.{Rise}
 use Rattle.wb_language.specs.Lines.{lines_of}
 use Rattle.workbench.specs.declared.report_values.FailingNumber.{FailingNumber}
-use Rattle.workbench.specs.declared.report_values.FailingNumber.TheVariants.{At, Length, Never, Set}
+use Rattle.workbench.specs.declared.report_values.FailingNumber.TheVariants.{At, Length, Never}
 use Rattle.workbench.specs.declared.report_values.ReportValues.{ReportValues}
 use Rattle.workbench.specs.Brief.{shown_text}
 use Rattle.workbench.specs.EndWords.{end_words}
@@ -68,24 +68,19 @@ line_string text = string text
 abbrev pub line_strings : List ℕ → Data
 line_strings text = array (items_of (map line_string (lines_of text)))
 
--- the number of an attempt, alone or as the first of all that fail, a rate, or the numbers of two attempts
+-- the number of an attempt, alone or as the first of all that fail, a rate, or the numbers of those that fail
 abbrev pub failing_value : Failing → Data
 failing_value (Number n) = count n
 failing_value (failings.Every n) = count n
 failing_value (failings.From n) = count n
 failing_value (Pair i j) = count_pair i j
+failing_value (failings.Set numbers) = array (items_of (map count numbers))
 
--- the numbers of a set
-abbrev pub set_value : Option (List ℕ) → Data
-set_value None = null
-set_value (Some numbers) = array (items_of (map count numbers))
-
-abbrev pub failing_number : Option FailingNumber → Option (List ℕ) → Data
-failing_number None set = null
-failing_number (Some Never) set = string (codes "none")
-failing_number (Some (At failing)) set = failing_value failing
-failing_number (Some (Length length)) set = count length
-failing_number (Some Set) set = set_value set
+abbrev pub failing_number : Option FailingNumber → Data
+failing_number None = null
+failing_number (Some Never) = string (codes "none")
+failing_number (Some (At failing)) = failing_value failing
+failing_number (Some (Length length)) = count length
 
 -- `[number, top]`
 abbrev pub rise_pair : Rise → Data
@@ -168,7 +163,7 @@ common_members task text values status =
     member (codes "attempts") (count_or_null values.attempts) (
     member (codes "kind") (kind_of task) (
     member (codes "lines") (line_strings text) (
-    member (codes "number") (failing_number values.number values.set) (
+    member (codes "number") (failing_number values.number) (
     member (codes "required") (count_or_null values.required) (
     member (codes "rises") (rise_pairs values.rises) (
     member (codes "status") (count status) (

@@ -1,33 +1,21 @@
 -- What a report says as values, beside its lines: of a run, of a size, of a sweep, of the search through all lengths.
-use Rattle.std.specs.Prelude.{ℕ, List, [], ◌∷◌, Option, Some, None, length}
-use Rattle.std.specs.Option.{option_map_or}
+use Rattle.std.specs.Prelude.{ℕ, List, Option, Some, None, length}
 use Rattle.wb_runs.specs.declared.failures.Failing.{Failing}
-use Rattle.wb_runs.specs.declared.failures.Failing.TheVariants.{Number}
 use Rattle.wb_runs.specs.declared.lengths.LengthRange.{LengthRange}
 use Rattle.wb_runs.specs.declared.number_ends.NumberEnd.{NumberEnd}
 use Rattle.wb_meaning.specs.declared.run.RunResult.{RunResult}
 use Rattle.wb_heap_model.specs.declared.size.Rise.{Rise}
 use Rattle.workbench.specs.declared.report_values.FailingNumber.{FailingNumber}
-use Rattle.workbench.specs.declared.report_values.FailingNumber.TheVariants.{At, Length, Never, Set}
+use Rattle.workbench.specs.declared.report_values.FailingNumber.TheVariants.{At, Length, Never}
 use Rattle.workbench.specs.declared.report_values.ReportValues.{ReportValues}
 
 -- of a refused script
 abbrev pub no_values : ReportValues
-no_values = record { attempts = None; number = None; required = None; rises = None; ranges = None; all = None; named = None; set = None; fine = None }
+no_values = record { attempts = None; number = None; required = None; rises = None; ranges = None; all = None; named = None; fine = None }
 
 -- of a run that was cut under this failure
 abbrev pub cut_values : Failing → ReportValues
 cut_values at = record no_values { named = Some at }
-
--- the number of the one attempt of a set; 0 where it has none, and `None` where it has more than one
-abbrev pub single_of : List ℕ → Option ℕ
-single_of [] = Some 0
-single_of (n ∷ []) = Some n
-single_of (m ∷ n ∷ ns) = None
-
--- of a run that was cut in which the attempts of a set fail: with no more than one as of a single number
-abbrev pub cut_set_values : List ℕ → ReportValues
-cut_set_values numbers = option_map_or (λ n. cut_values (Number n)) (single_of numbers) (record no_values { set = Some numbers })
 
 -- of a search that met more states than it may, where no set of at most so many attempts showed anything
 abbrev pub many_states_values : ℕ → ReportValues
@@ -40,11 +28,10 @@ run_values r = record no_values { attempts = Some (length r.trace) }
 abbrev pub size_values : ℕ → List Rise → ReportValues
 size_values required rises = record no_values { required = Some required; rises = Some rises }
 
--- the failure that was found; a length of heap is none, nor is a set
+-- the failure that was found; a length of heap is none
 abbrev pub found_failing : FailingNumber → Option Failing
 found_failing Never = None
 found_failing (Length _) = None
-found_failing Set = None
 found_failing (At failing) = Some failing
 
 -- of a sweep that was finished: the attempts of the run without failure, and the failure that was found,
@@ -52,12 +39,6 @@ found_failing (At failing) = Some failing
 abbrev pub sweep_values : ℕ → FailingNumber → ReportValues
 sweep_values attempts number =
     record no_values { attempts = Some attempts; number = Some number; named = found_failing number }
-
--- of a sweep over sets that found one: with no more than one attempt as of a single number
-abbrev pub set_values : ℕ → List ℕ → ReportValues
-set_values attempts numbers =
-    option_map_or (λ n. sweep_values attempts (At (Number n))) (single_of numbers)
-    (record (sweep_values attempts Set) { set = Some numbers })
 
 -- of a sweep that told of all that it found
 abbrev pub all_values : ℕ → List NumberEnd → FailingNumber → ReportValues
@@ -73,7 +54,6 @@ both_values first second = record {
   ranges = None;
   all = second.all;
   named = second.named;
-  set = second.set;
   fine = second.fine;
 }
 

@@ -3,71 +3,25 @@
 -- more than one attempt is spoken of as the single number of a sweep, and the empty one as number 0.
 use Rattle.std.specs.Prelude.{◌≡◌, ◌⊎◌, ◌≤◌, ℕ, Bool, true, false, List, ◌++◌, codes, length}
 use Rattle.std.specs.Fmt.{decimal}
-use Rattle.std.specs.List.{flat_map}
-use Rattle.std.specs.Option.{option_map_or}
-use Rattle.wb_runs.specs.declared.failures.Failing.TheVariants.{Number}
 use Rattle.wb_runs.specs.declared.failures.Failures.TheVariants.{Single}
 use Rattle.wb_heap_model.specs.declared.heap.Shape.{Shape}
 use Rattle.wb_runs.specs.declared.part.Part.{Part}
 use Rattle.wb_meaning.specs.declared.run.RunResult.{RunResult}
 use Rattle.wb_meaning.specs.declared.run.Why.{Why}
-use Rattle.wb_meaning.specs.declared.run.Why.TheVariants.{Budget, Ceiling}
 use Rattle.wb_tree.specs.declared.script.Script.{Script}
 use Rattle.wb_runs.specs.SetParts.{IsNoSetIn, IsSetCutIn, IsSetFoundIn}
 use Rattle.wb_runs.specs.Sets.{AreSetsFine, IsLeastBadSet, IsLeastCutSet}
-use Rattle.wb_sweep.specs.declared.set_answer.SetSweep.{SetSweep}
-use Rattle.workbench.specs.declared.report_values.FailingNumber.TheVariants.{Never}
+use Rattle.wb_runs.specs.Sweeps.{failing_set}
+use Rattle.workbench.specs.declared.report_values.FailingNumber.TheVariants.{At, Never}
 use Rattle.workbench.specs.declared.report_values.ReportValues.{ReportValues}
 use Rattle.workbench.specs.PartReport.{is_whole}
-use Rattle.workbench.specs.ReportValues.{cut_set_values, set_values, single_of, sweep_values}
-use Rattle.workbench.specs.RunText.{line, run_text}
-use Rattle.workbench.specs.TwoNumbers.{attempts_line, attempts_of, cut_at_line, failing_line}
-
--- ---- the lines
-
--- the numbers of a set, each after a blank
-abbrev pub spaced : ℕ → List ℕ
-spaced n = codes " " ++ decimal n
-
-abbrev pub numbers_text : List ℕ → List ℕ
-numbers_text numbers = flat_map spaced numbers
-
--- these attempts fail
-abbrev pub several_line : List ℕ → List ℕ
-several_line numbers = line (codes "set" ++ numbers_text numbers)
-
-abbrev pub set_line : List ℕ → List ℕ
-set_line numbers = option_map_or (λ n. failing_line (Number n)) (single_of numbers) (several_line numbers)
-
-abbrev pub found_set_text : List ℕ → RunResult → List ℕ
-found_set_text numbers result = set_line numbers ++ run_text result
+use Rattle.workbench.specs.ReportValues.{cut_values, sweep_values}
+use Rattle.workbench.specs.RunText.{line}
+use Rattle.workbench.specs.TwoNumbers.{attempts_line, attempts_of, cut_at_line, found_text}
 
 -- no set of at most so many attempts is found
 abbrev pub no_set_line : ℕ → List ℕ
 no_set_line most = line (codes "set none to " ++ decimal most)
-
--- the end of the line of a cut
-abbrev pub why_word : Why → List ℕ
-why_word Budget = line (codes " budget")
-why_word Ceiling = line (codes " ceiling")
-
--- the run in which these attempts fail was cut
-abbrev pub cut_several_line : List ℕ → Why → List ℕ
-cut_several_line numbers why = codes "cut" ++ numbers_text numbers ++ why_word why
-
-abbrev pub cut_set_line : List ℕ → Why → List ℕ
-cut_set_line numbers why = option_map_or (λ n. cut_at_line (Number n) why) (single_of numbers) (cut_several_line numbers why)
-
--- what a sweep over sets found, as it is printed; its values and the status
-abbrev pub sets_text : ℕ → SetSweep → List ℕ
-sets_text most sweep =
-    attempts_line sweep.attempts ++ option_map_or (λ found. found_set_text found.numbers found.result) sweep.found (no_set_line most)
-
-abbrev pub swept_values : SetSweep → ReportValues
-swept_values sweep = option_map_or (λ found. set_values sweep.attempts found.numbers) sweep.found (sweep_values sweep.attempts Never)
-
-abbrev pub swept_status : SetSweep → ℕ
-swept_status sweep = option_map_or (λ found. 1) sweep.found 0
 
 -- ---- what they mean
 
@@ -95,8 +49,8 @@ pub record IsFailingSet (part : Part) (most : ℕ) (script : Script) (budget : �
   pub numbers : List ℕ
   pub result : RunResult
   pub found : IsSetFoundOver (is_whole part) part most script budget shape numbers result
-  pub text_is : text ≡ attempts_line (attempts_of Single script budget shape) ++ found_set_text numbers result
-  pub values_are : values ≡ set_values (attempts_of Single script budget shape) numbers
+  pub text_is : text ≡ attempts_line (attempts_of Single script budget shape) ++ found_text (failing_set numbers) result
+  pub values_are : values ≡ sweep_values (attempts_of Single script budget shape) (At (failing_set numbers))
 
 -- the run leaks or panics under no set of at most so many attempts, and is cut under none of them
 pub record IsNoFailingSet (part : Part) (most : ℕ) (script : Script) (budget : ℕ) (shape : Shape)
@@ -112,8 +66,8 @@ pub record IsUnsweptSet (part : Part) (most : ℕ) (script : Script) (budget : �
   pub numbers : List ℕ
   pub why : Why
   pub cut : IsSetCutOver (is_whole part) part most script budget shape numbers why
-  pub text_is : text ≡ cut_set_line numbers why
-  pub values_are : values ≡ cut_set_values numbers
+  pub text_is : text ≡ cut_at_line (failing_set numbers) why
+  pub values_are : values ≡ cut_values (failing_set numbers)
 
 -- the report of `sweep --failures`
 abbrev pub IsSetsReport : Part → ℕ → Script → ℕ → Shape → List ℕ → ReportValues → ℕ → Type 0

@@ -4,6 +4,7 @@
 -- attempts whose failures do, or the least pair of attempts.
 use Rattle.std.specs.Prelude.{◌≡◌, ◌≢◌, ◌⊎◌, ℕ, List, [], ◌∷◌, ◌++◌, codes, length}
 use Rattle.std.specs.Fmt.{decimal}
+use Rattle.std.specs.List.{flat_map}
 use Rattle.std.specs.Option.{option_map_or}
 use Rattle.wb_runs.specs.declared.failures.Failing.{Failing}
 use Rattle.wb_runs.specs.declared.failures.Failing.TheVariants.{Number, Pair}
@@ -42,17 +43,29 @@ table_text from (rise ∷ rises) = refuses_line from rise.number ++ table_text r
 abbrev pub size_text : ℕ → List Rise → List ℕ
 size_text required rises = line (codes "required " ++ decimal required) ++ table_text 0 rises ++ line (codes "enough from " ++ decimal required)
 
--- the number of the attempt that fails, or of the first of all that do, the rate at which attempts fail, or the numbers of the two that fail
+-- a number after a blank
+abbrev pub spaced : ℕ → List ℕ
+spaced n = codes " " ++ decimal n
+
+abbrev pub numbers_text : List ℕ → List ℕ
+numbers_text numbers = flat_map spaced numbers
+
+-- the number of the attempt that fails, or of the first of all that do, the rate at which attempts fail, or the numbers of those that fail
 abbrev pub failing_text : Failing → List ℕ
-failing_text (Number n) = decimal n
-failing_text (failings.Every n) = decimal n
-failing_text (failings.From n) = decimal n
-failing_text (Pair i j) = decimal i ++ codes " " ++ decimal j
+failing_text (Number n) = spaced n
+failing_text (failings.Every n) = spaced n
+failing_text (failings.From n) = spaced n
+failing_text (Pair i j) = spaced i ++ spaced j
+failing_text (failings.Set numbers) = numbers_text numbers
+
+-- the end of the line of a cut
+abbrev pub why_word : Why → List ℕ
+why_word Budget = line (codes " budget")
+why_word Ceiling = line (codes " ceiling")
 
 -- the run under this failure was cut
 abbrev pub cut_at_line : Failing → Why → List ℕ
-cut_at_line at Budget = line (codes "cut " ++ failing_text at ++ codes " budget")
-cut_at_line at Ceiling = line (codes "cut " ++ failing_text at ++ codes " ceiling")
+cut_at_line at why = codes "cut" ++ failing_text at ++ why_word why
 
 -- The length is reported. It is the least at which the run meets no refusal of the heap, and for each smaller one the line of the
 -- table whose range holds it names the first attempt that the heap refuses (`IsHeapLength`). The rows of the table are the rises of
@@ -89,11 +102,15 @@ attempts_of failures script budget shape =
     length (runs_of failures script budget shape 0).trace
 
 -- which attempts fail
+abbrev pub failing_word : Failing → List ℕ
+failing_word (Number n) = codes "number"
+failing_word (failings.Every n) = codes "every"
+failing_word (failings.From n) = codes "persistent"
+failing_word (Pair i j) = codes "pair"
+failing_word (failings.Set numbers) = codes "set"
+
 abbrev pub failing_line : Failing → List ℕ
-failing_line (Number n) = line (codes "number " ++ decimal n)
-failing_line (failings.Every n) = line (codes "every " ++ decimal n)
-failing_line (failings.From n) = line (codes "persistent " ++ decimal n)
-failing_line (Pair i j) = line (codes "pair " ++ decimal i ++ codes " " ++ decimal j)
+failing_line at = line (failing_word at ++ failing_text at)
 
 abbrev pub found_text : Failing → RunResult → List ℕ
 found_text failing result = failing_line failing ++ run_text result
@@ -104,11 +121,15 @@ none_line Every = line (codes "every none")
 none_line Pairs = line (codes "pair none")
 none_line Persistent = line (codes "persistent none")
 
--- what a sweep over such failures found, as it is printed
-abbrev pub sweep_text : Failures → Sweep → List ℕ
-sweep_text failures sweep =
-    attempts_line sweep.attempts
-    ++ option_map_or (λ found. found_text found.at found.result) sweep.found (none_line failures)
+-- what a sweep found, as it is printed, with the line of one that finds nothing; its values and the status
+abbrev pub sweep_text : List ℕ → Sweep → List ℕ
+sweep_text nothing sweep = attempts_line sweep.attempts ++ option_map_or (λ found. found_text found.at found.result) sweep.found nothing
+
+abbrev pub swept_values : Sweep → ReportValues
+swept_values sweep = sweep_values sweep.attempts (option_map_or (λ found. At found.at) sweep.found Never)
+
+abbrev pub swept_status : Sweep → ℕ
+swept_status sweep = option_map_or (λ found. 1) sweep.found 0
 
 -- A number, a rate or a pair is printed, and the run under that failure. It is the least whose run leaks
 -- or panics; no smaller one's run is cut (`IsFound`).

@@ -85,8 +85,8 @@ pub struct Answered {
 /// Each read or write itself returns whether it failed. `READ_OR_WRITE_FAULT` is returned exactly if one of the calls that were made
 /// failed. No read follows a failed read or a read that returned no byte, and no write follows a failed write.
 ///
-/// The findings are what the report was made of: the bytes of the script that were read, and values of the report (see `Findings`). Without
-/// a report there are no findings.
+/// The findings are what the report was made of: the bytes of the script that were read, and the values of the report. Without a report
+/// there are no findings.
 ///
 /// `progress` is notified of how far a sweep, or the search through all lengths, has come. Nothing is written before the last of these
 /// notices. No result depends on what `progress` does.
@@ -215,15 +215,7 @@ fn lay_out(
     Ok(Message {
         text: json.unwrap_or(text),
         status,
-        findings: Findings {
-            bytes,
-            at: values.named,
-            set: values.set,
-            fine: values.fine,
-            rises: values.rises,
-            ranges: values.ranges,
-            all: values.all,
-        },
+        findings: Findings { bytes, values },
     })
 }
 

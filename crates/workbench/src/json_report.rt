@@ -9,7 +9,7 @@ ghost use Rattle.workbench.specs.JsonReport.{common_members, count, count_or_nul
 ghost use Rattle.workbench.specs.JsonReport.{failing_value, failures_kind, failures_version};
 ghost use Rattle.workbench.specs.JsonReport.{json_text, kind_of, line_string, line_strings, range_pair, range_pairs};
 ghost use Rattle.workbench.specs.JsonReport.{report_object, rise_pair, rise_pairs, search_kind, search_version, searched};
-ghost use Rattle.workbench.specs.JsonReport.{set_value, told_pair, told_pairs};
+ghost use Rattle.workbench.specs.JsonReport.{told_pair, told_pairs};
 ghost use Rattle.workbench.specs.JsonReport.{version_of, with_all, with_most, with_ranges, words_pair};
 
 use crate::end_text::put_end_words;
@@ -19,7 +19,6 @@ use serde_json::{Map, Value, put};
 use std::alloc::{AllocError, Global};
 use wb_basics::memory::NoMemory;
 use wb_command_line::command::{Search, Task};
-use wb_heap_model::heap::Numbers;
 use wb_heap_model::size::Rise;
 use wb_lengths::{LengthRange, LengthTable};
 use wb_runs::failures::{Failing, Failures};
@@ -79,7 +78,7 @@ fn common_members(
     put(&mut members, alloc, "kind", kind)?;
     let lines = line_strings(alloc, report.text.as_slice())?;
     put(&mut members, alloc, "lines", lines)?;
-    let number = failing_number(alloc, values.number, &values.set)?;
+    let number = failing_number(alloc, &values.number)?;
     put(&mut members, alloc, "number", number)?;
     let required = count_or_null(values.required);
     put(&mut members, alloc, "required", required)?;
@@ -266,29 +265,14 @@ pub(crate) fn first_line<'a>(bytes: &'a [u8]) -> (&'a [u8], &'a [u8])
     (bytes, &bytes[bytes.len()..])
 }
 
-/// What a search found: a failure, a length in bytes or the numbers of `set`; `none` if it found nothing, `null` if no search was finished.
-fn failing_number(
-    alloc: Global,
-    number: Option<FailingNumber>,
-    set: &Option<Numbers>,
-) -> Result<Value, AllocError>
-    ensures { IfOk result (λ value. view value ≡ failing_number number set.now) }
+/// What a search found: a failure, or a length in bytes; `none` if it found nothing, `null` if no search was finished.
+fn failing_number(alloc: Global, number: &Option<FailingNumber>) -> Result<Value, AllocError>
+    ensures { IfOk result (λ value. view value ≡ failing_number number.now) }
 {
     match number {
         Some(FailingNumber::At(failing)) => failing_value(alloc, failing),
-        Some(FailingNumber::Length(length)) => Ok(Value::from(length)),
-        Some(FailingNumber::Set) => set_value(alloc, set),
+        Some(FailingNumber::Length(length)) => Ok(Value::from(*length)),
         Some(FailingNumber::Never) => Value::try_from_str(alloc, "none"),
-        None => Ok(Value::Null),
-    }
-}
-
-/// The numbers of a set as a list, or `null` if there is no set.
-fn set_value(alloc: Global, set: &Option<Numbers>) -> Result<Value, AllocError>
-    ensures { IfOk result (λ value. view value ≡ set_value set.now) }
-{
-    match set {
-        Some(numbers) => Ok(Value::Array(all_counts(alloc, numbers.as_slice())?)),
         None => Ok(Value::Null),
     }
 }
@@ -303,16 +287,17 @@ fn all_counts(alloc: Global, numbers: &[u32]) -> Result<Vec<Value>, AllocError>
     Ok(counts)
 }
 
-/// A failure as a JSON value: a list of the two attempts of a pair, or one number. The number is the attempt that fails alone, the attempt
+/// A failure as a JSON value: a list of the attempts of a pair or a set, or one number. The number is the attempt that fails alone, the attempt
 /// from which on all attempts fail, or the rate at which attempts fail.
-fn failing_value(alloc: Global, failing: Failing) -> Result<Value, AllocError>
-    ensures { IfOk result (λ value. view value ≡ failing_value failing) }
+fn failing_value(alloc: Global, failing: &Failing) -> Result<Value, AllocError>
+    ensures { IfOk result (λ value. view value ≡ failing_value failing.now) }
 {
     match failing {
-        Failing::Number(number) => Ok(Value::from(number)),
-        Failing::Every(rate) => Ok(Value::from(rate)),
-        Failing::Pair(first, second) => count_pair(alloc, first, second),
-        Failing::From(first) => Ok(Value::from(first)),
+        Failing::Number(number) => Ok(Value::from(*number)),
+        Failing::Every(rate) => Ok(Value::from(*rate)),
+        Failing::Pair(first, second) => count_pair(alloc, *first, *second),
+        Failing::From(first) => Ok(Value::from(*first)),
+        Failing::Set(numbers) => Ok(Value::Array(all_counts(alloc, numbers.as_slice())?)),
     }
 }
 

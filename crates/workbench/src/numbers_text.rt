@@ -1,15 +1,19 @@
 //! The text of the two numbers, line by line: how long the heap must be, and which failure makes the run leak or panic. Only this module
-//! decides what these lines say.
+//! decides what these lines say. A failure is one attempt, all from one on, a rate, a pair or a set.
 
 ghost use Rattle.std.specs.Prelude.{◌≡◌, ◌++◌, OnOk};
-ghost use Rattle.workbench.specs.TwoNumbers.{cut_at_line, failing_line, none_line, refuses_line, size_text, sweep_text};
-ghost use Rattle.workbench.specs.TwoNumbers.{table_text};
+ghost use Rattle.workbench.specs.EverySetReport.{many_states_text};
+ghost use Rattle.workbench.specs.SearchReport.{nothing_line};
+ghost use Rattle.workbench.specs.TwoNumbers.{cut_at_line, failing_line, failing_text, failing_word, none_line, numbers_text};
+ghost use Rattle.workbench.specs.TwoNumbers.{refuses_line, size_text, spaced, sweep_text, table_text, why_word};
 
 use crate::appending::or_no_memory;
 use crate::line::Line;
 use crate::run_text::put_run;
 use std::io::Write;
 use wb_basics::memory::NoMemory;
+use wb_command_line::command::Search;
+use wb_heap_model::heap::Numbers;
 use wb_heap_model::size::Rise;
 use wb_meaning::run::Why;
 use wb_runs::failures::{Failing, Failures};
@@ -52,32 +56,87 @@ fn put_refuses(text: &mut Vec<u8>, from: u32, number: u32) -> Result<(), NoMemor
 }
 
 /// Appends how many attempts the run without failure makes. Then appends the failure that was found and its run, or a line that says that
-/// no failure was found.
-pub fn put_sweep(text: &mut Vec<u8>, failures: Failures, sweep: &Sweep) -> Result<(), NoMemory>
-    ensures { OnOk result (text.new.items ≡ text.old.items ++ sweep_text failures sweep.now) }
+/// nothing was found.
+pub fn put_sweep(text: &mut Vec<u8>, search: Search, sweep: &Sweep) -> Result<(), NoMemory>
+    ensures { OnOk result (text.new.items
+        ≡ text.old.items ++ sweep_text (nothing_line search) sweep.now) }
 {
     let attempts = sweep.attempts;
     or_no_memory(writeln!(text, "attempts {attempts}"))?;
     match &sweep.found {
         Some(found) => {
-            put_failing(text, found.at)?;
+            put_failing(text, &found.at)?;
             put_run(text, &found.result)
         }
-        None => put_none(text, failures),
+        None => put_nothing(text, search),
     }
 }
 
 /// Appends the line that names a failure.
-pub fn put_failing(text: &mut Vec<u8>, failing: Failing) -> Result<(), NoMemory>
-    ensures { OnOk result (text.new.items ≡ text.old.items ++ failing_line failing) }
+fn put_failing(text: &mut Vec<u8>, failing: &Failing) -> Result<(), NoMemory>
+    ensures { OnOk result (text.new.items ≡ text.old.items ++ failing_line failing.now) }
+{
+    put_word(text, failing)?;
+    put_failing_numbers(text, failing)?;
+    or_no_memory(writeln!(text))
+}
+
+/// Appends the word that says what kind of failure this is.
+fn put_word(text: &mut Vec<u8>, failing: &Failing) -> Result<(), NoMemory>
+    ensures { OnOk result (text.new.items ≡ text.old.items ++ failing_word failing.now) }
 {
     let put = match failing {
-        Failing::Number(number) => writeln!(text, "number {number}"),
-        Failing::Every(rate) => writeln!(text, "every {rate}"),
-        Failing::Pair(first, second) => writeln!(text, "pair {first} {second}"),
-        Failing::From(first) => writeln!(text, "persistent {first}"),
+        Failing::Number(_) => write!(text, "number"),
+        Failing::Every(_) => write!(text, "every"),
+        Failing::Pair(_, _) => write!(text, "pair"),
+        Failing::From(_) => write!(text, "persistent"),
+        Failing::Set(_) => write!(text, "set"),
     };
     or_no_memory(put)
+}
+
+/// Appends the numbers of a failure, each after a blank.
+fn put_failing_numbers(text: &mut Vec<u8>, failing: &Failing) -> Result<(), NoMemory>
+    ensures { OnOk result (text.new.items ≡ text.old.items ++ failing_text failing.now) }
+{
+    match failing {
+        Failing::Number(number) => put_number(text, *number),
+        Failing::Every(rate) => put_number(text, *rate),
+        Failing::Pair(first, second) => {
+            put_number(text, *first)?;
+            put_number(text, *second)
+        }
+        Failing::From(first) => put_number(text, *first),
+        Failing::Set(numbers) => put_numbers(text, numbers),
+    }
+}
+
+fn put_numbers(text: &mut Vec<u8>, numbers: &Numbers) -> Result<(), NoMemory>
+    ensures { OnOk result (text.new.items ≡ text.old.items ++ numbers_text numbers.now) }
+{
+    for number in numbers.as_slice() {
+        put_number(text, *number)?;
+    }
+    Ok(())
+}
+
+fn put_number(text: &mut Vec<u8>, number: u32) -> Result<(), NoMemory>
+    ensures { OnOk result (text.new.items ≡ text.old.items ++ spaced number) }
+{
+    or_no_memory(write!(text, " {number}"))
+}
+
+/// Appends the line of a search that found nothing.
+fn put_nothing(text: &mut Vec<u8>, search: Search) -> Result<(), NoMemory>
+    ensures { OnOk result (text.new.items ≡ text.old.items ++ nothing_line search) }
+{
+    match search {
+        Search::Least(failures) | Search::All(failures) | Search::Ends(failures) => {
+            put_none(text, failures)
+        }
+        Search::Sets(most) => or_no_memory(writeln!(text, "set none to {most}")),
+        Search::EverySet(_) => or_no_memory(writeln!(text, "set none")),
+    }
 }
 
 fn put_none(text: &mut Vec<u8>, failures: Failures) -> Result<(), NoMemory>
@@ -93,35 +152,30 @@ fn put_none(text: &mut Vec<u8>, failures: Failures) -> Result<(), NoMemory>
 }
 
 /// Appends the line of a run that was cut under this failure.
-pub fn put_cut_at(text: &mut Vec<u8>, at: Failing, why: Why) -> Result<(), NoMemory>
-    ensures { OnOk result (text.new.items ≡ text.old.items ++ cut_at_line at why) }
+pub fn put_cut_at(text: &mut Vec<u8>, at: &Failing, why: Why) -> Result<(), NoMemory>
+    ensures { OnOk result (text.new.items ≡ text.old.items ++ cut_at_line at.now why) }
 {
-    match at {
-        Failing::Number(number) => put_cut(text, number, why),
-        Failing::Every(rate) => put_cut(text, rate, why),
-        Failing::Pair(first, second) => put_cut_pair(text, first, second, why),
-        Failing::From(first) => put_cut(text, first, why),
-    }
+    or_no_memory(write!(text, "cut"))?;
+    put_failing_numbers(text, at)?;
+    put_why(text, why)
 }
 
-fn put_cut(text: &mut Vec<u8>, number: u32, why: Why) -> Result<(), NoMemory>
-    ensures { OnOk result (text.new.items
-        ≡ text.old.items ++ cut_at_line (Failing.Number number) why) }
+fn put_why(text: &mut Vec<u8>, why: Why) -> Result<(), NoMemory>
+    ensures { OnOk result (text.new.items ≡ text.old.items ++ why_word why) }
 {
     let put = match why {
-        Why::Budget => writeln!(text, "cut {number} budget"),
-        Why::Ceiling => writeln!(text, "cut {number} ceiling"),
+        Why::Budget => writeln!(text, " budget"),
+        Why::Ceiling => writeln!(text, " ceiling"),
     };
     or_no_memory(put)
 }
 
-fn put_cut_pair(text: &mut Vec<u8>, first: u32, second: u32, why: Why) -> Result<(), NoMemory>
-    ensures { OnOk result (text.new.items
-        ≡ text.old.items ++ cut_at_line (Failing.Pair first second) why) }
+/// Appends three lines: how many attempts the run without failure makes, that no set of at most `fine` attempts was found, and that the
+/// search met too many states.
+pub fn put_many_states(text: &mut Vec<u8>, attempts: u64, fine: u32) -> Result<(), NoMemory>
+    ensures { OnOk result (text.new.items ≡ text.old.items ++ many_states_text attempts fine) }
 {
-    let put = match why {
-        Why::Budget => writeln!(text, "cut {first} {second} budget"),
-        Why::Ceiling => writeln!(text, "cut {first} {second} ceiling"),
-    };
-    or_no_memory(put)
+    or_no_memory(writeln!(text, "attempts {attempts}"))?;
+    or_no_memory(writeln!(text, "set none to {fine}"))?;
+    or_no_memory(writeln!(text, "cut states"))
 }

@@ -1,12 +1,10 @@
-//! The values of a report, besides its lines. A JSON report has a key for each value, with three exceptions: it lacks `named` and `fine`,
-//! and it has `set` under the key of `number`.
+//! The values of a report, besides its lines. A JSON report has a key for each value but `named` and `fine`.
 
-ghost use Rattle.std.specs.Prelude.{◌≡◌};
+ghost use Rattle.std.specs.Prelude.{◌≡◌, IfOk};
 ghost use Rattle.workbench.specs.ReportValues.{all_values, both_values, cut_values, found_failing, lengths_values};
-ghost use Rattle.workbench.specs.ReportValues.{cut_set_values, many_states_values, no_values, run_values, set_values};
-ghost use Rattle.workbench.specs.ReportValues.{single_of, size_values, sweep_values};
+ghost use Rattle.workbench.specs.ReportValues.{many_states_values, no_values, run_values, size_values, sweep_values};
 
-use wb_heap_model::heap::Numbers;
+use wb_basics::memory::NoMemory;
 use wb_meaning::run::RunResult;
 use wb_runs::failures::Failing;
 use wb_runs::lengths::LengthTable;
@@ -14,7 +12,7 @@ use wb_runs::number_ends::NumberEnds;
 use wb_size::{Rises, Sizing};
 
 /// Of all failures or lengths of heap that were tried, the least whose run leaks or panics.
-#[derive(Clone, Copy, Debug, PartialEq, Eq)]
+#[derive(Debug, Drop)]
 pub enum FailingNumber {
     /// No failure that was tried, or no length of heap, has a run that leaks or panics.
     Never,
@@ -22,18 +20,16 @@ pub enum FailingNumber {
     At(Failing),
     /// The least length of heap whose run leaks or panics, in bytes.
     Length(u32),
-    /// The least set of attempts whose run leaks or panics, if it has two attempts or more: the set that the lines name.
-    Set,
 }
 
 impl FailingNumber {
-    /// Returns the failure that was found; `None` if nothing, a length of heap or a set was found.
-    fn failing(self) -> Option<Failing>
-        ensures { result ≡ found_failing self }
+    /// Returns a copy of the failure that was found; `None` if nothing or a length of heap was found. The only error is that memory ran out.
+    fn failing(&self) -> Result<Option<Failing>, NoMemory>
+        ensures { IfOk result (λ failing. failing ≡ found_failing self.now) }
     {
         match self {
-            FailingNumber::Never | FailingNumber::Length(_) | FailingNumber::Set => None,
-            FailingNumber::At(failing) => Some(failing),
+            FailingNumber::Never | FailingNumber::Length(_) => Ok(None),
+            FailingNumber::At(failing) => Ok(Some(failing.try_copy()?)),
         }
     }
 }
@@ -56,23 +52,9 @@ pub struct ReportValues {
     /// The failure that the lines name; `None` if the lines name no failure. The lines show the run under this failure, or say that this
     /// run was cut.
     pub named: Option<Failing>,
-    /// The set of two or more attempts that the lines name; `None` if the lines name no such set. The lines show the run in which these
-    /// attempts fail, or say that this run was cut.
-    pub set: Option<Numbers>,
     /// `Some` exactly if a search met more states than are allowed. Then no set of at most this many attempts has a run that leaks, panics
     /// or is cut.
     pub fine: Option<u32>,
-}
-
-/// The number of a set's only attempt; 0 if the set is empty, and `None` if the set has more than one attempt.
-pub fn single_of(numbers: &Numbers) -> Option<u32>
-    ensures { result ≡ single_of numbers.now }
-{
-    match numbers.as_slice() {
-        [] => Some(0),
-        [number] => Some(*number),
-        _ => None,
-    }
 }
 
 impl ReportValues {
@@ -88,7 +70,6 @@ impl ReportValues {
             ranges: None,
             all: None,
             named: None,
-            set: None,
             fine: None,
         }
     }
@@ -100,19 +81,6 @@ impl ReportValues {
         ReportValues {
             named: Some(at),
             ..ReportValues::none()
-        }
-    }
-
-    /// The values of the report on a run in which the attempts of a set fail, and which was cut.
-    pub fn of_cut_set(numbers: Numbers) -> ReportValues
-        ensures { result ≡ cut_set_values numbers }
-    {
-        match single_of(&numbers) {
-            Some(number) => ReportValues::of_cut(Failing::Number(number)),
-            None => ReportValues {
-                set: Some(numbers),
-                ..ReportValues::none()
-            },
         }
     }
 
@@ -147,41 +115,31 @@ impl ReportValues {
         }
     }
 
-    /// The values of a sweep that was finished.
-    pub fn of_sweep(attempts: u32, number: FailingNumber) -> ReportValues
-        ensures { result ≡ sweep_values attempts number }
+    /// The values of a sweep that was finished. The only error is that memory ran out.
+    pub fn of_sweep(attempts: u32, number: FailingNumber) -> Result<ReportValues, NoMemory>
+        ensures { IfOk result (λ values. values ≡ sweep_values attempts number) }
     {
-        ReportValues {
+        let named = number.failing()?;
+        Ok(ReportValues {
             attempts: Some(u64::from(attempts)),
             number: Some(number),
-            named: number.failing(),
+            named,
             ..ReportValues::none()
-        }
+        })
     }
 
-    /// The values of a sweep over sets that found this set.
-    pub fn of_set(attempts: u32, numbers: Numbers) -> ReportValues
-        ensures { result ≡ set_values attempts numbers }
+    /// The values of a sweep that lists numbers. The only error is that memory ran out.
+    pub fn of_all(
+        attempts: u32,
+        ends: NumberEnds,
+        number: FailingNumber,
+    ) -> Result<ReportValues, NoMemory>
+        ensures { IfOk result (λ values. values ≡ all_values attempts ends number) }
     {
-        match single_of(&numbers) {
-            Some(number) => {
-                ReportValues::of_sweep(attempts, FailingNumber::At(Failing::Number(number)))
-            }
-            None => ReportValues {
-                set: Some(numbers),
-                ..ReportValues::of_sweep(attempts, FailingNumber::Set)
-            },
-        }
-    }
-
-    /// The values of a sweep that lists numbers.
-    pub fn of_all(attempts: u32, ends: NumberEnds, number: FailingNumber) -> ReportValues
-        ensures { result ≡ all_values attempts ends number }
-    {
-        ReportValues {
+        Ok(ReportValues {
             all: Some(ends),
-            ..ReportValues::of_sweep(attempts, number)
-        }
+            ..ReportValues::of_sweep(attempts, number)?
+        })
     }
 
     /// The values of a check: the values of its sizing, and the values of the sweep after the sizing.
@@ -196,7 +154,6 @@ impl ReportValues {
             ranges: None,
             all: sweep.all,
             named: sweep.named,
-            set: sweep.set,
             fine: sweep.fine,
         }
     }

@@ -37,9 +37,9 @@ impl<'a> Control<'a> {
         Ok(())
     }
 
-    /// Begins a statement. If one of the statement's operands panics, the run ends with this panic instead.
-    #[inline(always)]
-    pub(crate) fn begin_any(
+    /// Begins a statement that is no arithmetic, as `begin_any` does. It isn't inlined, so that a step of arithmetic stays short.
+    #[inline(never)]
+    fn begin_less_frequent(
         &mut self,
         script: &'a Script,
         at: Context,
@@ -61,14 +61,6 @@ impl<'a> Control<'a> {
         ensures line { self.new.line ≡ self.old.line }
     {
         match statement {
-            Statement::SetNumber(local, value) => {
-                self.ending = state.set_number(*local, value);
-                Ok(())
-            }
-            Statement::Add(local, value) => {
-                self.ending = state.add(*local, value);
-                Ok(())
-            }
             Statement::Leave(code) => {
                 self.ending = state.leave(code);
                 Ok(())
@@ -106,6 +98,42 @@ impl<'a> Control<'a> {
                 None => self.begin_statement(script, at, statement, state),
             },
             _ => self.begin_unless_refused(script, at, statement, state),
+        }
+    }
+
+    /// Begins a statement. If one of the statement's operands panics, the run ends with this panic instead.
+    #[inline(always)]
+    pub(crate) fn begin_any(
+        &mut self,
+        script: &'a Script,
+        at: Context,
+        statement: &'a Statement,
+        state: &mut State,
+    ) -> Result<(), NoMemory>
+        requires script { IsTrue (is_script script.now) }
+        requires own { IsOwn script.now (out-Statement statement.now) }
+        requires may { MayBegin script.now self.old.ending self.old.pieces.items state.old }
+        ensures kept { OnOk result ((r : Rule) (budget : ℕ) →
+            FitsStep r state.old self.new.ending state.new →
+            rest_from script.now budget r self.new.ending self.new.pieces.items state.new
+            ≡ rest_of_statement script.now budget r (context_of at) (out-Statement statement.now)
+            self.old.pieces.items state.old) }
+        ensures sound { OnOk result (AreSound script.now self.new.pieces.items) }
+        ensures keeps { KeepsSteps state.old state.new }
+        ensures whole { OnOk result (StaysWhole script.now state.old state.new) }
+        ensures room { OnOk result (HasRoom self.new.ending self.new.pieces.items state.new) }
+        ensures line { self.new.line ≡ self.old.line }
+    {
+        match statement {
+            Statement::SetNumber(local, value) => {
+                self.ending = state.set_number(*local, value);
+                Ok(())
+            }
+            Statement::Add(local, value) => {
+                self.ending = state.add(*local, value);
+                Ok(())
+            }
+            _ => self.begin_less_frequent(script, at, statement, state),
         }
     }
 }

@@ -1,2 +1,2 @@
 -- Given on from `wb_runs`.
-pub use Rattle.wb_runs.specs.SetAnswers.{SetAnswer, found, cut, none, IsSetAnswerIn, first_set_of, least_set_of, set_of, IsSetOfFound, IsSetOfCut}
+pub use Rattle.wb_runs.specs.SetAnswers.{SetAnswer, found, cut, none, IsSetAnswerIn, first_set_of, least_set_of, IsSetOfFound, IsSetOfCut}

@@ -1,7 +1,7 @@
 //! The commands that the tests try, each with the progress that the program must report.
 
 use crate::failing::{FALLBACK, THRICE};
-use wb_runs::failures::Failing;
+use crate::rules::Refuses;
 use workbench::Aim;
 
 /// The progress that the program must report with these words and this script.
@@ -19,7 +19,7 @@ pub(super) struct Wanted {
     pub(super) aim: Option<Aim>,
     /// How many attempts the run without failure makes; `None` if the sweep tries no failure afterwards.
     pub(super) last: Option<u32>,
-    pub(super) failures: &'static [Failing],
+    pub(super) failures: &'static [Refuses],
     /// Whether the sweep searches sets of attempts by states.
     pub(super) are_sets_searched: bool,
 }
@@ -40,7 +40,7 @@ pub(super) static TOLD: [Wanted; 22] = [
         lengths: &[],
         aim: Some(Aim::Least(1)),
         last: Some(3),
-        failures: &[Failing::Number(1), Failing::Number(2), Failing::Number(3)],
+        failures: &[Refuses::Number(1), Refuses::Number(2), Refuses::Number(3)],
         are_sets_searched: false,
     },
     Wanted {
@@ -52,7 +52,7 @@ pub(super) static TOLD: [Wanted; 22] = [
         lengths: &[],
         aim: Some(Aim::Least(1)),
         last: Some(3),
-        failures: &[Failing::Number(1), Failing::Number(2), Failing::Number(3)],
+        failures: &[Refuses::Number(1), Refuses::Number(2), Refuses::Number(3)],
         are_sets_searched: false,
     },
     // The run with rate 2 leaks.
@@ -65,7 +65,7 @@ pub(super) static TOLD: [Wanted; 22] = [
         lengths: &[],
         aim: Some(Aim::Least(1)),
         last: Some(3),
-        failures: &[Failing::Every(1), Failing::Every(2)],
+        failures: &[Refuses::Every(1), Refuses::Every(2)],
         are_sets_searched: false,
     },
     Wanted {
@@ -77,7 +77,7 @@ pub(super) static TOLD: [Wanted; 22] = [
         lengths: &[],
         aim: Some(Aim::Least(2)),
         last: Some(3),
-        failures: &[Failing::Number(1), Failing::Number(2), Failing::Number(3)],
+        failures: &[Refuses::Number(1), Refuses::Number(2), Refuses::Number(3)],
         are_sets_searched: true,
     },
     // A run in which attempt 1 fails makes no other attempt. A run in which attempt 2 fails makes a fourth attempt. Pairs are searched by
@@ -91,7 +91,7 @@ pub(super) static TOLD: [Wanted; 22] = [
         lengths: &[],
         aim: Some(Aim::Least(2)),
         last: Some(3),
-        failures: &[Failing::Number(1), Failing::Number(2), Failing::Number(3)],
+        failures: &[Refuses::Number(1), Refuses::Number(2), Refuses::Number(3)],
         are_sets_searched: true,
     },
     // Sets are searched by states too.
@@ -104,7 +104,7 @@ pub(super) static TOLD: [Wanted; 22] = [
         lengths: &[],
         aim: Some(Aim::Least(3)),
         last: Some(3),
-        failures: &[Failing::Number(1), Failing::Number(2), Failing::Number(3)],
+        failures: &[Refuses::Number(1), Refuses::Number(2), Refuses::Number(3)],
         are_sets_searched: true,
     },
     // Three attempts can fail. Each of these attempts is made only if all attempts before it in the `repeat` have failed.
@@ -117,7 +117,7 @@ pub(super) static TOLD: [Wanted; 22] = [
         lengths: &[],
         aim: Some(Aim::Least(3)),
         last: Some(2),
-        failures: &[Failing::Number(1), Failing::Number(2)],
+        failures: &[Refuses::Number(1), Refuses::Number(2)],
         are_sets_searched: true,
     },
     Wanted {
@@ -129,7 +129,7 @@ pub(super) static TOLD: [Wanted; 22] = [
         lengths: &[],
         aim: Some(Aim::Least(1)),
         last: Some(2),
-        failures: &[Failing::Number(1), Failing::Number(2)],
+        failures: &[Refuses::Number(1), Refuses::Number(2)],
         are_sets_searched: false,
     },
     // The run without failure leaks.
@@ -205,7 +205,7 @@ pub(super) static TOLD: [Wanted; 22] = [
         lengths: &[],
         aim: Some(Aim::All),
         last: Some(3),
-        failures: &[Failing::Every(1), Failing::Every(2), Failing::Every(3)],
+        failures: &[Refuses::Every(1), Refuses::Every(2), Refuses::Every(3)],
         are_sets_searched: false,
     },
     // With `--quiet`, the program reports no progress.
@@ -231,7 +231,7 @@ pub(super) static TOLD: [Wanted; 22] = [
         lengths: &[],
         aim: Some(Aim::Least(1)),
         last: Some(3),
-        failures: &[Failing::Number(1), Failing::Number(2)],
+        failures: &[Refuses::Number(1), Refuses::Number(2)],
         are_sets_searched: false,
     },
     // The program rejects the script, so there is nothing to sweep.

@@ -1,7 +1,8 @@
 -- What one more line is to the checks of the lines before it.
-use Rattle.std.proofs.Common.{◌≡◌, ℕ, suc, ◌+◌, List, [], ◌∷◌, ◌++◌, length, Bool, Option, sym, ap, ◌∙◌, append-nil, arith}
+use Rattle.std.proofs.Common.{◌≡◌, ℕ, suc, ◌+◌, List, [], ◌∷◌, ◌++◌, length, Bool, false, Option, Some, None, refl, sym, ap, ◌∙◌, add-zero, append-nil, arith}
 use Rattle.std.proofs.lemmas.Grind.{flat_map-append}
 use Rattle.wb_tree.specs.declared.script_lines.Form.{Form}
+use Rattle.wb_tree.specs.declared.script_lines.Form.TheVariants.{Skip}
 use Rattle.wb_language.specs.Kinds.{has_wrong_kind, may_leave}
 use Rattle.wb_language.specs.Names.{Text, NamesSoFar, Declaration, names_of, nothing_known, known_after, first_refused, declares_again, passes_limit, literals_in, literals_of}
 use Rattle.wb_language.specs.Resolved.{resolved_among, resolved_line, uses_unknown}
@@ -52,3 +53,24 @@ module _ (items : List Declaration) (before : List (Form Text)) (form : Form Tex
     may_leave = one_more_refused may_leave _ _ checked.may_leave leaving;
     too_many = one_more_refused passes_limit _ _ checked.too_many many;
   }
+
+none_here : (found : Option ℕ) (number : ℕ) → found ≡ or_here found number false
+none_here (Some first) number = refl
+none_here None number = refl
+
+skipped_known : (known : NamesSoFar) → known ≡ known_after known Skip
+skipped_known known = rw (add-zero known.classes, add-zero known.procedures, add-zero known.operations, add-zero known.literals, append-nil known.locals, append-nil known.kinds) refl
+
+-- a skipped line changes nothing that is known, and no check refuses it
+pub skipped_checked : (items : List Declaration) (before : List (Form Text)) (old new : Checked) → AreChecked items before old → new.lines ≡ old.lines ++ Skip ∷ [] → new.known ≡ old.known → new.first ≡ old.first → AreChecked items (before ++ Skip ∷ []) new
+skipped_checked items before old new checked lines known first =
+    let number : ℕ = length old.lines + 1 in
+    one_more_checked items before Skip old new number checked refl
+    lines
+    (ap known_in known ∙ skipped_known (known_in old.known))
+    (ap (λ k. bytes_of_texts k.literals.items) known ∙ sym (append-nil (bytes_of_texts old.known.literals.items)))
+    (ap (λ f. f.unknown_name) first ∙ none_here old.first.unknown_name number)
+    (ap (λ f. f.double_name) first ∙ none_here old.first.double_name number)
+    (ap (λ f. f.wrong_kind) first ∙ none_here old.first.wrong_kind number)
+    (ap (λ f. f.may_leave) first ∙ none_here old.first.may_leave number)
+    (ap (λ f. f.too_many) first ∙ none_here old.first.too_many number)

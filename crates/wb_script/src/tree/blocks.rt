@@ -1,11 +1,13 @@
 //! The blocks that are open in a body, and the statements around and inside them.
 
-ghost use Rattle.std.specs.Prelude.{◌≡◌, [], ◌∷◌, ◌++◌, IfOk};
+ghost use Rattle.std.specs.Prelude.{◌≡◌, ◌<◌, [], ◌∷◌, ◌++◌, length, IfOk, OnOk};
 ghost use Rattle.std.specs.List.{list_any};
 ghost use Rattle.wb_language.specs.Kinds.{is_trap};
-ghost use Rattle.wb_script.specs.Building.{head_line_kind, line_kinds_of_blocks, IsWhole, IsClosed, TurnsToElse};
+ghost use Rattle.wb_script.specs.Building.{head_line_kind, line_kinds_of_blocks, IsWhole, ClosesBlock, TurnsToElse};
+ghost use Rattle.wb_script.specs.Growing.{if_added};
 
 use std::alloc::{AllocError, Global};
+use std::mem::replace;
 use wb_basics::items::Items;
 use wb_tree::script::{Condition, Number, Statement, StatementAt};
 
@@ -70,81 +72,60 @@ fn statement_of_block(head: Head, statements: Items<StatementAt>) -> Statement
     }
 }
 
-/// The open blocks and the statements so far, after the first line of a block.
+/// Enters a block, which begins with this head in the line with this number.
 pub(crate) fn enter_block(
     alloc: Global,
-    block_stack: BlockStack,
+    block_stack: &mut BlockStack,
     line: u32,
     head: Head,
-) -> Result<BlockStack, AllocError>
-    ensures { IfOk result (λ n. n ≡ record {
-      blocks = block_stack.blocks
-          ++ (record { before = block_stack.statements; line = line; head = head }) ∷ [];
+) -> Result<(), AllocError>
+    ensures { OnOk result (block_stack.new ≡ record {
+      blocks = block_stack.old.blocks
+          ++ (record { before = block_stack.old.statements; line = line; head = head }) ∷ [];
       statements = [];
     }) }
 {
-    let mut blocks = block_stack.blocks;
-    blocks.push(OpenBlock {
-        before: block_stack.statements,
-        line,
-        head,
-    })?;
-    Ok(BlockStack {
-        blocks,
-        statements: Items::new(alloc),
-    })
+    let before = replace(&mut block_stack.statements, Items::new(alloc));
+    block_stack.blocks.push(OpenBlock { before, line, head })?;
+    Ok(())
 }
 
-/// The open blocks and the statements so far, after an `else`; `None` if the innermost block is no `if`, or already has an `else`.
-pub(crate) fn turn_to_else(
-    alloc: Global,
-    block_stack: BlockStack,
-) -> Result<Option<BlockStack>, AllocError>
-    ensures { IfOk result (TurnsToElse block_stack) }
+/// Turns to the second part of the innermost block at an `else`. Returns `false` if the block is no `if`, or already has an `else`.
+pub(crate) fn turn_to_else(alloc: Global, block_stack: &mut BlockStack) -> Result<bool, AllocError>
+    ensures { IfOk result (λ turned.
+        TurnsToElse block_stack.old (if_added turned block_stack.new)) }
 {
-    let mut blocks = block_stack.blocks;
-    match blocks.pop() {
+    match block_stack.blocks.pop() {
         Some(block) => match block.head {
             Head::If(condition) => {
-                blocks.push(OpenBlock {
+                let first = replace(&mut block_stack.statements, Items::new(alloc));
+                block_stack.blocks.push(OpenBlock {
                     before: block.before,
                     line: block.line,
-                    head: Head::Else(condition, block_stack.statements),
+                    head: Head::Else(condition, first),
                 })?;
-                Ok(Some(BlockStack {
-                    blocks,
-                    statements: Items::new(alloc),
-                }))
+                Ok(true)
             }
-            _ => Ok(None),
+            _ => Ok(false),
         },
-        None => Ok(None),
+        None => Ok(false),
     }
 }
 
-/// What is left open after an `end`.
-#[derive(Drop)]
-pub(crate) enum Enclosing {
-    /// The innermost block has ended, and is now a statement of the block or body around it.
-    Block(BlockStack),
-    /// No block was open, so the body has ended, with these statements.
-    Body(Items<StatementAt>),
-}
-
-/// Ends the innermost block, or the body if no block is open.
-pub(crate) fn end_block(block_stack: BlockStack) -> Result<Enclosing, AllocError>
-    ensures { IfOk result (IsClosed block_stack) }
+/// Ends the innermost block, which becomes a statement of the block or body around it.
+pub(crate) fn end_block(block_stack: &mut BlockStack) -> Result<(), AllocError>
+    requires { 0 < length block_stack.now.blocks }
+    ensures { OnOk result (ClosesBlock block_stack.old block_stack.new) }
 {
-    let mut blocks = block_stack.blocks;
-    match blocks.pop() {
+    match block_stack.blocks.pop() {
         Some(block) => {
-            let mut statements = block.before;
-            statements.push(StatementAt {
+            let inside = replace(&mut block_stack.statements, block.before);
+            block_stack.statements.push(StatementAt {
                 line: block.line,
-                statement: statement_of_block(block.head, block_stack.statements),
+                statement: statement_of_block(block.head, inside),
             })?;
-            Ok(Enclosing::Block(BlockStack { blocks, statements }))
+            Ok(())
         }
-        None => Ok(Enclosing::Body(block_stack.statements)),
+        None => unreachable!(),
     }
 }

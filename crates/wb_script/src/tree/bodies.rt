@@ -1,9 +1,9 @@
 //! Builds an open body, line by line up to its end.
 
-ghost use Rattle.std.specs.Prelude.{◌≡◌, ◌≤◌, ◌++◌, ◌∷◌, [], length, IfOk, IsTrue, OnOk};
+ghost use Rattle.std.specs.Prelude.{◌≡◌, ◌<◌, ◌≤◌, ◌++◌, ◌∷◌, [], length, IfOk, IsTrue, MatchBool, OnOk};
 ghost use Rattle.wb_tree.specs.declared.script_lines.Role.TheVariants as role;
 ghost use Rattle.wb_tree.specs.declared.script_lines.Form.TheVariants.{Line};
-ghost use Rattle.wb_tree.specs.declared.script_lines.LineKind.TheVariants as line_kind;
+ghost use Rattle.wb_tree.specs.declared.script_lines.LineKind.TheVariants as kind;
 ghost use Rattle.wb_language.specs.LineKinds.{role_of};
 ghost use Rattle.wb_script.specs.Building.{begins_block, line_kinds_of_blocks};
 ghost use Rattle.wb_script.specs.declared.tree.bodies.BodyProgress.TheVariants.{Inside};
@@ -11,7 +11,7 @@ ghost use Rattle.wb_script.specs.Growing.{AddsWhereFit, IsSoundOpen, TakesWhereF
 ghost use Rattle.wb_script.specs.Growing.{scope_in_body, with_statement};
 ghost use Rattle.wb_script.specs.Stated.{IsStatedWhereFit, scope_in};
 
-use crate::tree::blocks::{BlockStack, Enclosing, end_block, enter_block, turn_to_else};
+use crate::tree::blocks::{BlockStack, end_block, enter_block, turn_to_else};
 use crate::tree::heads::head_of;
 use crate::tree::locals::declared_local;
 use crate::tree::plain::plain_statement;
@@ -79,37 +79,36 @@ fn next_local(
     declared_local(body.scope.len(), space.fields, line_kind, operands)
 }
 
-fn with_local(body: OpenBody, local: Local) -> Result<OpenBody, AllocError>
-    ensures { IfOk result (λ p.
-        p ≡ record body { locals = body.locals ++ local ∷ []; scope = body.scope ++ local ∷ [] }) }
+fn push_local(body: &mut OpenBody, local: Local) -> Result<(), AllocError>
+    ensures { OnOk result (body.new ≡ record body.old {
+      locals = body.old.locals ++ local ∷ [];
+      scope = body.old.scope ++ local ∷ [];
+    }) }
 {
-    let mut locals = body.locals;
-    locals.push(local)?;
-    let mut scope = body.scope;
-    scope.push(local)?;
-    Ok(OpenBody {
-        locals,
-        scope,
-        ..body
-    })
+    body.locals.push(local)?;
+    body.scope.push(local)?;
+    Ok(())
 }
 
-/// Adds a declaration; `number` is the number of its line. The result is `None` if the declaration is not allowed there.
+/// Adds a declaration; `number` is the number of its line. Returns `false` if the declaration is not allowed there.
 fn add_declaration(
     space: Space,
-    body: OpenBody,
+    body: &mut OpenBody,
     number: u32,
     line_kind: LineKind,
     operands: &[Operand<Referent>],
-) -> Result<Option<BodyProgress>, AllocError>
-    requires sound { IsSoundOpen (declared_in_space space) body }
+) -> Result<bool, AllocError>
+    requires sound { IsSoundOpen (declared_in_space space) body.now }
     requires declares { role_of line_kind ≡ role.Declaration }
-    ensures { IfOk result
-        (AddsWhereFit (declared_in_space space.entry) number (Line line_kind operands.now) body) }
+    ensures { IfOk result (λ added. AddsWhereFit (declared_in_space space.entry) number
+        (Line line_kind operands.now) body.old (if_added added (Inside body.new))) }
 {
-    match next_local(space, &body, line_kind, operands) {
-        Some(local) => Ok(Some(BodyProgress::Inside(with_local(body, local)?))),
-        None => Ok(None),
+    match next_local(space, body, line_kind, operands) {
+        Some(local) => {
+            push_local(body, local)?;
+            Ok(true)
+        }
+        None => Ok(false),
     }
 }
 
@@ -143,9 +142,8 @@ fn push_statement(body: &mut OpenBody, line: u32, statement: Statement) -> Resul
     Ok(())
 }
 
-/// Adds a statement that begins no block to an open body in place; `number` is the number of its line. Returns `false` if the statement's
-/// operands don't fit.
-pub(crate) fn add_statement_in_place(
+/// Adds a statement that begins no block; `number` is the number of its line. Returns `false` if the statement's operands don't fit.
+fn add_statement(
     alloc: Global,
     space: Space,
     body: &mut OpenBody,
@@ -153,7 +151,7 @@ pub(crate) fn add_statement_in_place(
     line_kind: LineKind,
     operands: &[Operand<Referent>],
 ) -> Result<bool, AllocError>
-    requires sound { IsSoundOpen (declared_in_space space) body.old }
+    requires sound { IsSoundOpen (declared_in_space space) body.now }
     requires plain { role_of line_kind ≡ role.Plain }
     ensures { IfOk result (λ added. AddsWhereFit (declared_in_space space.entry) number
         (Line line_kind operands.now) body.old (if_added added (Inside body.new))) }
@@ -167,111 +165,143 @@ pub(crate) fn add_statement_in_place(
     }
 }
 
-/// Adds a statement that begins no block to an open body; `number` is the number of its line. The result is `None` if the statement's
-/// operands don't fit.
-fn add_statement(
-    alloc: Global,
-    space: Space,
-    body: OpenBody,
-    number: u32,
-    line_kind: LineKind,
-    operands: &[Operand<Referent>],
-) -> Result<Option<BodyProgress>, AllocError>
-    requires sound { IsSoundOpen (declared_in_space space) body }
-    requires plain { role_of line_kind ≡ role.Plain }
-    ensures { IfOk result
-        (AddsWhereFit (declared_in_space space.entry) number (Line line_kind operands.now) body) }
-{
-    let mut body = body;
-    if add_statement_in_place(alloc, space, &mut body, number, line_kind, operands)? {
-        Ok(Some(BodyProgress::Inside(body)))
-    } else {
-        Ok(None)
-    }
-}
-
-/// Begins a block; `number` is the number of its first line. The result is `None` if the operands don't fit, or too many blocks are open
-/// inside one another.
+/// Begins a block; `number` is the number of its first line. Returns `false` if the operands don't fit, or too many blocks are open inside
+/// one another.
 fn begin_block(
     alloc: Global,
     space: Space,
-    body: OpenBody,
+    body: &mut OpenBody,
     number: u32,
     line_kind: LineKind,
     operands: &[Operand<Referent>],
-) -> Result<Option<BodyProgress>, AllocError>
-    requires sound { IsSoundOpen (declared_in_space space) body }
+) -> Result<bool, AllocError>
+    requires sound { IsSoundOpen (declared_in_space space) body.now }
     requires block { IsTrue (begins_block line_kind) }
-    ensures { IfOk result
-        (AddsWhereFit (declared_in_space space.entry) number (Line line_kind operands.now) body) }
+    ensures { IfOk result (λ added. AddsWhereFit (declared_in_space space.entry) number
+        (Line line_kind operands.now) body.old (if_added added (Inside body.new))) }
 {
     if body.block_stack.blocks.len() >= DEEPEST_BLOCK as usize {
-        return Ok(None);
+        return Ok(false);
     }
-    let here = scope_of(space, &body);
+    let here = scope_of(space, body);
     match head_of(&here, line_kind, operands) {
         Some(head) => {
-            let block_stack = enter_block(alloc, body.block_stack, number, head)?;
-            Ok(Some(BodyProgress::Inside(OpenBody {
-                block_stack,
-                ..body
-            })))
+            enter_block(alloc, &mut body.block_stack, number, head)?;
+            Ok(true)
         }
-        None => Ok(None),
+        None => Ok(false),
     }
 }
 
-/// Adds an `else`; `None` if the `else` is not allowed there, or has operands.
+/// Adds an `else`. Returns `false` if the `else` is not allowed there, or has operands.
 fn add_else(
     alloc: Global,
     space: Space,
-    body: OpenBody,
+    body: &mut OpenBody,
     number: u32,
     operands: &[Operand<Referent>],
-) -> Result<Option<BodyProgress>, AllocError>
-    requires { IsSoundOpen (declared_in_space space) body }
-    ensures { IfOk result (AddsWhereFit (declared_in_space space.entry) number
-        (Line line_kind.Else operands.now) body) }
+) -> Result<bool, AllocError>
+    requires { IsSoundOpen (declared_in_space space) body.now }
+    ensures { IfOk result (λ added. AddsWhereFit (declared_in_space space.entry) number
+        (Line kind.Else operands.now) body.old (if_added added (Inside body.new))) }
 {
     if !operands.is_empty() {
-        return Ok(None);
+        return Ok(false);
     }
-    match turn_to_else(alloc, body.block_stack)? {
-        Some(block_stack) => Ok(Some(BodyProgress::Inside(OpenBody {
-            block_stack,
-            ..body
-        }))),
-        None => Ok(None),
+    turn_to_else(alloc, &mut body.block_stack)
+}
+
+/// Adds the `end` of the innermost block. Returns `false` if the `end` has operands.
+fn add_end(
+    space: Space,
+    body: &mut OpenBody,
+    number: u32,
+    operands: &[Operand<Referent>],
+) -> Result<bool, AllocError>
+    requires sound { IsSoundOpen (declared_in_space space) body.now }
+    requires inside { 0 < length body.now.block_stack.blocks }
+    ensures { IfOk result (λ added. AddsWhereFit (declared_in_space space.entry) number
+        (Line kind.End operands.now) body.old (if_added added (Inside body.new))) }
+{
+    if !operands.is_empty() {
+        return Ok(false);
+    }
+    end_block(&mut body.block_stack)?;
+    Ok(true)
+}
+
+/// Whether a line is the `end` of an open body, in which no block is open.
+pub(crate) fn closes_body(body: &OpenBody, line_kind: LineKind) -> bool
+    ensures { MatchBool result
+        ((line_kind ≡ kind.End) × (body.now.block_stack.blocks ≡ []))
+        (line_kind ≡ kind.End → 0 < length body.now.block_stack.blocks) }
+{
+    match line_kind {
+        LineKind::End => body.block_stack.blocks.len() == 0,
+        _ => false,
     }
 }
 
-/// Adds an `end`; `None` if the `end` has operands.
-fn add_end(
+/// Adds the line with this number, which doesn't end the body, to an open body in place. Returns `false` if the line is not allowed there.
+pub(crate) fn add_inside_body(
+    alloc: Global,
+    space: Space,
+    body: &mut OpenBody,
+    number: u32,
+    line_kind: LineKind,
+    operands: &[Operand<Referent>],
+) -> Result<bool, AllocError>
+    requires sound { IsSoundOpen (declared_in_space space) body.now }
+    requires inside { line_kind ≡ kind.End → 0 < length body.now.block_stack.blocks }
+    ensures { IfOk result (λ added. AddsWhereFit (declared_in_space space.entry) number
+        (Line line_kind operands.now) body.old (if_added added (Inside body.new))) }
+{
+    match line_kind {
+        LineKind::Class
+        | LineKind::Field
+        | LineKind::ClassField
+        | LineKind::Constructor
+        | LineKind::Destructor
+        | LineKind::Proc
+        | LineKind::Op => Ok(false),
+        LineKind::Ptr | LineKind::ClassPtr | LineKind::Int | LineKind::Buf | LineKind::View => {
+            add_declaration(space, body, number, line_kind, operands)
+        }
+        LineKind::IfNull
+        | LineKind::IfSome
+        | LineKind::IfEqual
+        | LineKind::IfLess
+        | LineKind::Repeat
+        | LineKind::Trap => { begin_block(alloc, space, body, number, line_kind, operands) }
+        LineKind::Else => add_else(alloc, space, body, number, operands),
+        LineKind::End => add_end(space, body, number, operands),
+        _ => add_statement(alloc, space, body, number, line_kind, operands),
+    }
+}
+
+/// Ends an open body, in which no block is open; `None` if the `end` has operands.
+fn end_body(
     space: Space,
     body: OpenBody,
     number: u32,
     operands: &[Operand<Referent>],
-) -> Result<Option<BodyProgress>, AllocError>
-    requires { IsSoundOpen (declared_in_space space) body }
-    ensures { IfOk result (AddsWhereFit (declared_in_space space.entry) number
-        (Line line_kind.End operands.now) body) }
+) -> Option<BodyProgress>
+    requires sound { IsSoundOpen (declared_in_space space) body }
+    requires outside { body.block_stack.blocks ≡ [] }
+    ensures { AddsWhereFit (declared_in_space space.entry) number
+        (Line kind.End operands.now) body result }
 {
     if !operands.is_empty() {
-        return Ok(None);
+        return None;
     }
-    match end_block(body.block_stack)? {
-        Enclosing::Block(block_stack) => Ok(Some(BodyProgress::Inside(OpenBody {
-            block_stack,
-            ..body
-        }))),
-        Enclosing::Body(statements) => Ok(Some(BodyProgress::Done(
-            body.parameters,
-            Body {
-                locals: body.locals,
-                statements,
-            },
-        ))),
-    }
+    let block_stack = body.block_stack;
+    Some(BodyProgress::Done(
+        body.parameters,
+        Body {
+            locals: body.locals,
+            statements: block_stack.statements,
+        },
+    ))
 }
 
 /// Adds the line with this number to an open body; `None` if the line is not allowed there.
@@ -287,25 +317,13 @@ pub(crate) fn add_to_body(
     ensures { IfOk result
         (AddsWhereFit (declared_in_space space.entry) number (Line line_kind operands.now) body) }
 {
-    match line_kind {
-        LineKind::Class
-        | LineKind::Field
-        | LineKind::ClassField
-        | LineKind::Constructor
-        | LineKind::Destructor
-        | LineKind::Proc
-        | LineKind::Op => Ok(None),
-        LineKind::Ptr | LineKind::ClassPtr | LineKind::Int | LineKind::Buf | LineKind::View => {
-            add_declaration(space, body, number, line_kind, operands)
-        }
-        LineKind::IfNull
-        | LineKind::IfSome
-        | LineKind::IfEqual
-        | LineKind::IfLess
-        | LineKind::Repeat
-        | LineKind::Trap => { begin_block(alloc, space, body, number, line_kind, operands) }
-        LineKind::Else => add_else(alloc, space, body, number, operands),
-        LineKind::End => add_end(space, body, number, operands),
-        _ => add_statement(alloc, space, body, number, line_kind, operands),
+    let mut body = body;
+    if closes_body(&body, line_kind) {
+        return Ok(end_body(space, body, number, operands));
+    }
+    if add_inside_body(alloc, space, &mut body, number, line_kind, operands)? {
+        Ok(Some(BodyProgress::Inside(body)))
+    } else {
+        Ok(None)
     }
 }

@@ -9,6 +9,6 @@ pub result_under-requires-clause-same : goal.result_under-requires-clause-same
 result_under-requires-clause-same c =
     let failures = c.args.failures in
     let attempts = c.args.lead.now.attempts in
-    let e = c.rule.ensures ∙ ap rule_for (c.at-failing.ensures ∙ ap (failing_at failures) c.requires.next) in
+    let e = c.rule.ensures ∙ ap rule_for (c.at.ensures ∙ ap (failing_at failures) c.requires.next) in
     subst (λ (q : Rule). SameSoFar q c.args.lead.now.rule attempts) (sym e)
     (subst (λ (q : Rule). SameSoFar (rule_of failures (attempts + 1)) q attempts) (sym c.requires.rule) (failures-fit failures attempts))

@@ -7,9 +7,9 @@ use Rattle.wb_lengths.proofs.all_lengths.find_bad.Goals as goal
 pub returns-in_default-clause-none : goal.returns-in_default-clause-none
 returns-in_default-clause-none c same =
     let none : first_bad c.args.table.now ≡ None = search rules in
-    none_bad c.args.script.now c.args.budget c.args.shape c.args.table.now c.requires.table none
+    none_bad c.args.script.now c.args.conditions.budget c.args.conditions.shape c.args.table.now c.requires.table none
 
 pub returns-clause-bad : goal.returns-clause-bad
 returns-clause-bad c =
     let first : first_bad c.args.table.now ≡ Some c.in-Some.length = search rules in
-    found_bad c.args.script.now c.args.budget c.args.shape c.args.table.now c.in-Some.length c.in_ok-result.result c.requires.table first c.in_ok-result.ensures.ran
+    found_bad c.args.script.now c.args.conditions.budget c.args.conditions.shape c.args.table.now c.in-Some.length c.in_ok-result.result c.requires.table first c.in_ok-result.ensures.ran

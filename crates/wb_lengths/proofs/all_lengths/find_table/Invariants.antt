@@ -1,7 +1,6 @@
 -- Proof: find_table. The table is right from a length on, and the lengths below are to come.
-use Rattle.std.proofs.Common.{◌≡◌, ◌+◌, ◌≤◌, false, None}
+use Rattle.std.proofs.Common.{◌≡◌, ◌+◌, ◌≤◌, None}
 use Rattle.wb_basics.specs.declared.limits.TheConstants.{CEILING}
-use Rattle.wb_heap_model.specs.Space.{is_shape}
 use Rattle.wb_lengths.specs.Forks.{AreOf}
 use Rattle.wb_lengths.specs.Walk.{IsRightFrom}
 use Rattle.wb_lengths.proofs.all_lengths.find_table.Given as goal
@@ -9,9 +8,8 @@ use Rattle.wb_lengths.proofs.all_lengths.find_table.Given as goal
 abbrev pub invariant-loop-next : goal.invariant-loop-next
 invariant-loop-next g l = record {
   within : l.next ≤ CEILING + 1;
-  right : IsRightFrom l.script l.budget l.shape l.next l.table;
-  shaped : is_shape l.shape ≡ false → l.next ≡ CEILING + 1;
-  forks : AreOf l.script l.budget l.shape l.runs.forks;
+  right : IsRightFrom l.script l.conditions.budget l.conditions.shape l.next l.table;
+  forks : AreOf l.script l.conditions.budget l.conditions.shape l.runs.forks;
   unbounded : l.fn.runs.steps_left ≡ None → l.runs.steps_left ≡ None;
 }
 

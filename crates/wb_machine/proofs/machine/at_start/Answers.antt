@@ -16,10 +16,10 @@ invariant_of-result c =
     record {
       sound = λ well. record {
         script = c.requires.script;
-        least = c.requires.least;
-        small = c.requires.greatest;
+        least = c.args.conditions.least;
+        small = c.args.conditions.greatest;
         shape = c.requires.shape;
-        shaped = c.requires.shaped;
+        shaped = c.args.conditions.shaped;
         between = record {
           within = omega (arith, ap (λ x. x.steps) start);
           counted = omega (arith, ap (λ x. x.debug.attempts) start);
@@ -34,5 +34,5 @@ invariant_of-result c =
         no_line = λ e. c.new.ensures.line;
         leaks = λ e goes. cc;
       };
-      keeps = λ well r f. rest_first r script c.args.budget c.new.result.ending c.new.result.pieces.items h start (fits-limit r h.debug.rule _ _ f);
+      keeps = λ well r f. rest_first r script c.args.conditions.budget c.new.result.ending c.new.result.pieces.items h start (fits-limit r h.debug.rule _ _ f);
     }

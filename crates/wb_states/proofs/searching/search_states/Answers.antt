@@ -13,9 +13,9 @@ returns-in-Some-clause-shown g c shown e =
     let whole : Bool = c.is_whole.result in
     let told = c.at_least_one.ensures in
     let same : at_least_one answer ≡ found.Shown shown = cc in
-    let known : IsAnswer (ground-of script c.args.budget c.args.shape whole c.args.part c.args.last c.args.states) answer = search rules in
-    shown-in script c.args.budget c.args.shape whole c.args.part c.args.last c.args.states c.requires.last c.is_whole.ensures shown
-    (subst (IsAnswer (ground-of script c.args.budget c.args.shape whole c.args.part c.args.last c.args.states)) (at-least-shown answer shown same) known)
+    let known : IsAnswer (ground-of script c.args.conditions.budget c.args.conditions.shape whole c.args.part c.args.last c.args.states) answer = search rules in
+    shown-in script c.args.conditions.budget c.args.conditions.shape whole c.args.part c.args.last c.args.states c.requires.last c.is_whole.ensures shown
+    (subst (IsAnswer (ground-of script c.args.conditions.budget c.args.conditions.shape whole c.args.part c.args.last c.args.states)) (at-least-shown answer shown same) known)
 
 pub returns-in-Some-2-clause-shown : goal.returns-in-Some-2-clause-shown
 returns-in-Some-2-clause-shown g c shown e =
@@ -24,9 +24,9 @@ returns-in-Some-2-clause-shown g c shown e =
     let whole : Bool = c.is_whole.result in
     let told = c.at_least_one-in-Some-2.ensures in
     let same : at_least_one answer ≡ found.Shown shown = cc in
-    let known : IsAnswer (ground-of script c.args.budget c.args.shape whole c.args.part c.args.last c.args.states) answer = search rules in
-    shown-in script c.args.budget c.args.shape whole c.args.part c.args.last c.args.states c.requires.last c.is_whole.ensures shown
-    (subst (IsAnswer (ground-of script c.args.budget c.args.shape whole c.args.part c.args.last c.args.states)) (at-least-shown answer shown same) known)
+    let known : IsAnswer (ground-of script c.args.conditions.budget c.args.conditions.shape whole c.args.part c.args.last c.args.states) answer = search rules in
+    shown-in script c.args.conditions.budget c.args.conditions.shape whole c.args.part c.args.last c.args.states c.requires.last c.is_whole.ensures shown
+    (subst (IsAnswer (ground-of script c.args.conditions.budget c.args.conditions.shape whole c.args.part c.args.last c.args.states)) (at-least-shown answer shown same) known)
 
 pub returns-in-Some-clause-many : goal.returns-in-Some-clause-many
 returns-in-Some-clause-many g c fine e =
@@ -35,8 +35,8 @@ returns-in-Some-clause-many g c fine e =
     let whole : Bool = c.is_whole.result in
     let told = c.at_least_one.ensures in
     let same : at_least_one answer ≡ found.ManyStates fine = cc in
-    let known : IsAnswer (ground-of script c.args.budget c.args.shape whole c.args.part c.args.last c.args.states) answer = search rules in
-    many-told script c.args.budget c.args.shape whole c.args.part c.args.last c.args.states c.requires.last c.is_whole.ensures c.requires.single.fine answer fine same known
+    let known : IsAnswer (ground-of script c.args.conditions.budget c.args.conditions.shape whole c.args.part c.args.last c.args.states) answer = search rules in
+    many-told script c.args.conditions.budget c.args.conditions.shape whole c.args.part c.args.last c.args.states c.requires.last c.is_whole.ensures c.requires.single.fine answer fine same known
 
 pub returns-in-Some-2-clause-many : goal.returns-in-Some-2-clause-many
 returns-in-Some-2-clause-many g c fine e =
@@ -45,5 +45,5 @@ returns-in-Some-2-clause-many g c fine e =
     let whole : Bool = c.is_whole.result in
     let told = c.at_least_one-in-Some-2.ensures in
     let same : at_least_one answer ≡ found.ManyStates fine = cc in
-    let known : IsAnswer (ground-of script c.args.budget c.args.shape whole c.args.part c.args.last c.args.states) answer = search rules in
-    many-told script c.args.budget c.args.shape whole c.args.part c.args.last c.args.states c.requires.last c.is_whole.ensures c.requires.single.fine answer fine same known
+    let known : IsAnswer (ground-of script c.args.conditions.budget c.args.conditions.shape whole c.args.part c.args.last c.args.states) answer = search rules in
+    many-told script c.args.conditions.budget c.args.conditions.shape whole c.args.part c.args.last c.args.states c.requires.last c.is_whole.ensures c.requires.single.fine answer fine same known

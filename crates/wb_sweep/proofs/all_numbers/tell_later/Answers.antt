@@ -16,25 +16,25 @@ lead_under-requires-clause-rule g c = ap limit_of (c.rule.ensures ∙ ap rule_fo
 
 pub tell_along-requires-clause-last : goal.tell_along-requires-clause-last
 tell_along-requires-clause-last g c =
-    let last = last_attempt c.args.failures c.args.script.now c.args.budget c.args.shape in
+    let last = last_attempt c.args.failures c.args.script.now c.args.conditions.budget c.args.conditions.shape in
     let most = min-le_right c.args.part.to last in
     let end : c.min-end.result ≡ min c.args.part.to last = c.min-end.ensures ∙ ap (min c.args.part.to) c.requires.last in
-    subst (λ (s : Seen). c.min-end.result ≤ last_attempt c.args.failures s.script s.budget s.shape) (sym c.in_ok-lead.ensures.seen) (omega (arith, most, end))
+    subst (λ (s : Seen). c.min-end.result ≤ last_attempt c.args.failures s.script s.budget s.shape) (sym c.in_ok-lead.ensures) (omega (arith, most, end))
 
 pub tell_along-requires-clause-end : goal.tell_along-requires-clause-end
 tell_along-requires-clause-end g c =
-    subst (λ (s : Seen). c.args.first ≡ end_of (runs_of c.args.failures s.script s.budget s.shape 0).outcome) (sym c.in_ok-lead.ensures.seen) c.requires.end
+    subst (λ (s : Seen). c.args.first ≡ end_of (runs_of c.args.failures s.script s.budget s.shape 0).outcome) (sym c.in_ok-lead.ensures) c.requires.end
 
 pub tell_along-requires-clause-told : goal.tell_along-requires-clause-told
 tell_along-requires-clause-told g c =
     let from = c.args.part.from in
-    subst (λ (s : Seen). c.args.ends.now ≡ listed_numbers c.args.listing (runs_of c.args.failures s.script s.budget s.shape) from (1 - from)) (sym c.in_ok-lead.ensures.seen) c.requires.told
+    subst (λ (s : Seen). c.args.ends.now ≡ listed_numbers c.args.listing (runs_of c.args.failures s.script s.budget s.shape) from (1 - from)) (sym c.in_ok-lead.ensures) c.requires.told
 
-pub returns-clause-told : goal.returns-clause-told
-returns-clause-told g c =
+pub returns : goal.returns
+returns g c =
     let from = c.args.part.from in
-    let last = last_attempt c.args.failures c.args.script.now c.args.budget c.args.shape in
+    let last = last_attempt c.args.failures c.args.script.now c.args.conditions.budget c.args.conditions.shape in
     let end : c.min-end.result ≡ min c.args.part.to last = c.min-end.ensures ∙ ap (min c.args.part.to) c.requires.last in
     let told = subst (λ (s : Seen). c.tell_along.new.ends ≡ listed_numbers c.args.listing (runs_of c.args.failures s.script s.budget s.shape) from (c.min-end.result + 1 - from))
-    c.in_ok-lead.ensures.seen c.in_ok-tell_along.ensures in
-    told ∙ ap (λ (n : ℕ). listed_numbers c.args.listing (runs_of c.args.failures c.args.script.now c.args.budget c.args.shape) from (n + 1 - from)) end
+    c.in_ok-lead.ensures c.in_ok-tell_along.ensures in
+    told ∙ ap (λ (n : ℕ). listed_numbers c.args.listing (runs_of c.args.failures c.args.script.now c.args.conditions.budget c.args.conditions.shape) from (n + 1 - from)) end

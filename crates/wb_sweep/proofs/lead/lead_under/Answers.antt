@@ -7,16 +7,16 @@ use Rattle.wb_sweep.proofs.lead.lead_under.Goals as goal
 
 pub set_rule-requires-clause-same : goal.set_rule-requires-clause-same
 set_rule-requires-clause-same c =
-    subst (λ (s : Seen). SameSoFar c.args.rule s.rule s.attempts) (sym c.in_ok-lead.ensures.seen)
+    subst (λ (s : Seen). SameSoFar c.args.rule s.rule s.attempts) (sym c.in_ok-lead.ensures)
     (record { no_limit = c.requires.rule; own_no_limit = refl; same = λ number end first made. absurd (omega (arith, first, made)) })
 
 -- a heap is as long under each rule that is no limit
-pub returns-clause-seen : goal.returns-clause-seen
-returns-clause-seen c =
+pub returns : goal.returns
+returns c =
     let script = c.args.script.now in
-    let budget = c.args.budget in
-    let shape = c.args.shape in
+    let budget = c.args.conditions.budget in
+    let shape = c.args.conditions.shape in
     let rule = c.args.rule in
     c.set_rule.ensures
-    ∙ ap (λ (s : Seen). record s { rule = rule }) c.in_ok-lead.ensures.seen
+    ∙ ap (λ (s : Seen). record s { rule = rule }) c.in_ok-lead.ensures
     ∙ ap (λ (limit : Option ℕ). record (seen_at_start true script rule budget shape) { committed = min shape.min (bound_below (below_ceiling limit)) }) (sym c.requires.rule)

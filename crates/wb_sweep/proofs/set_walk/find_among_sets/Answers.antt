@@ -10,7 +10,7 @@ use Rattle.wb_runs.specs.Parts.{last_attempt, IsNumberOf}
 use Rattle.wb_meaning.specs.Run.{run}
 use Rattle.wb_runs.specs.Sets.{set_run}
 use Rattle.wb_runs.proofs.SetLemmas.{none-fails}
-use Rattle.wb_sweep.specs.declared.set_answer.SetFault.TheVariants.{Cut}
+use Rattle.wb_sweep.specs.declared.fault.Unswept.TheVariants.{Cut}
 use Rattle.wb_sweep.specs.SetSearch.{AreFewerFineWith, AreFineWith, IsCutWith, IsFoundWith}
 use Rattle.wb_sweep.proofs.AnswerLemmas.{map_some, nothing}
 use Rattle.wb_sweep.proofs.Further.{IsOfSameRun, of-same, to-same}
@@ -20,7 +20,7 @@ use Rattle.wb_sweep.proofs.SetSearchLemmas.{sets-further}
 use Rattle.wb_sweep.proofs.set_walk.find_among_sets.Goals as goal
 
 pub returns-in_err-found-clause-cut : goal.returns-in_err-found-clause-cut
-returns-in_err-found-clause-cut g c numbers why e =
+returns-in_err-found-clause-cut g c at why e =
     let old = c.args.lead.now in
     let lead = c.loop-lead.lead in
     let part = c.args.part in
@@ -29,12 +29,12 @@ returns-in_err-found-clause-cut g c numbers why e =
     let made = c.attempts-number.ensures.so_far in
     let end = c.min-end.ensures ∙ ap (min part.to) c.requires.last in
     let same : IsOfSameRun old lead = record { script = before.script; budget = before.budget; shape = before.shape } in
-    let is : c.find_next.result ≡ Err (Cut numbers why) = search rules in
-    let (later, told) = c.find_next.ensures.cut numbers why is in
-    let cut = subst (λ (xs : List ℕ). IsCutWith (set_run old.script old.budget old.shape) xs number (c.args.fewer + 1) numbers why) c.requires.none
-    (of-same old lead same (λ (s : Script) (b : ℕ) (h : Shape). IsCutWith (set_run s b h) c.args.none.now number (c.args.fewer + 1) numbers why) told) in
+    let is : c.find_next.result ≡ Err (Cut at why) = search rules in
+    let (later, told) = c.find_next.ensures.cut at why is in
+    let cut = subst (λ (xs : List ℕ). IsCutWith (set_run old.script old.budget old.shape) xs number (c.args.fewer + 1) at why) c.requires.none
+    (of-same old lead same (λ (s : Script) (b : ℕ) (h : Shape). IsCutWith (set_run s b h) c.args.none.now number (c.args.fewer + 1) at why) told) in
     set-cut part old.script old.budget old.shape c.args.fewer lead.attempts number (omega (arith, made)) (omega (arith, later, c.saturating_sub-past.ensures))
-    (omega (arith, end, made, c.attempts.ensures.so_far, c.loop-lead-test.true)) c.requires.uncut c.requires.fine before.fine numbers why cut
+    (omega (arith, end, made, c.attempts.ensures.so_far, c.loop-lead-test.true)) c.requires.uncut c.requires.fine before.fine at why cut
 
 pub returns-then-is_some-clause-found : goal.returns-then-is_some-clause-found
 returns-then-is_some-clause-found g c =

@@ -8,5 +8,5 @@ invariant-loop-fewer g l =
     record {
       some : l.fn.fine ≤ l.fewer;
       most : l.fewer ≤ l.fn.most;
-      fine : AreSetsFineIn l.fn.part l.fewer l.fn.script l.fn.budget l.fn.shape;
+      fine : AreSetsFineIn l.fn.part l.fewer l.fn.script l.fn.conditions.budget l.fn.conditions.shape;
     }

@@ -4,7 +4,7 @@ use Rattle.std.proofs.lemmas.Bool.{true≢false}
 use Rattle.wb_heap_model.specs.declared.heap.Shape.{Shape}
 use Rattle.wb_tree.specs.declared.script.Script.{Script}
 use Rattle.wb_runs.specs.Sets.{set_run}
-use Rattle.wb_sweep.specs.declared.set_answer.SetFault.TheVariants.{Cut}
+use Rattle.wb_sweep.specs.declared.fault.Unswept.TheVariants.{Cut}
 use Rattle.wb_sweep.specs.SetSearch.{AreFewerFine, AreFine, IsCutAfter, IsCutWith, IsFoundAfter, IsFoundWith}
 use Rattle.wb_sweep.proofs.AnswerLemmas.{map_ok, map_some}
 use Rattle.wb_sweep.proofs.Further.{IsOfSameRun, of-same, to-same}
@@ -12,17 +12,17 @@ use Rattle.wb_sweep.proofs.SetSearchLemmas.{cut-further, cut-outside, fewer-insi
 use Rattle.wb_sweep.proofs.sets.+sets.Goals as goal
 
 pub find_along-returns-in_err-found-clause-cut : goal.find_along-returns-in_err-found-clause-cut
-find_along-returns-in_err-found-clause-cut g t c numbers why e =
+find_along-returns-in_err-found-clause-cut g t c at why e =
     let old = c.args.lead.now in
     let lead = c.loop-lead.lead in
     let before = c.loop-lead.invariant in
     let number = c.attempts-number.result + 1 in
     let made = c.attempts-number.ensures.so_far in
     let same : IsOfSameRun old lead = record { script = before.script; budget = before.budget; shape = before.shape } in
-    let is : c.find_next.result ≡ Err (Cut numbers why) = search rules in
-    let (later, cut) = c.find_next.ensures.cut numbers why is in
-    let with_it = of-same old lead same (λ (s : Script) (b : ℕ) (h : Shape). IsCutWith (set_run s b h) c.args.set.now number c.args.more numbers why) cut in
-    cut-further (set_run old.script old.budget old.shape) c.args.set.now c.args.past lead.attempts c.args.more number (omega (arith, made)) later before.fine numbers why with_it
+    let is : c.find_next.result ≡ Err (Cut at why) = search rules in
+    let (later, cut) = c.find_next.ensures.cut at why is in
+    let with_it = of-same old lead same (λ (s : Script) (b : ℕ) (h : Shape). IsCutWith (set_run s b h) c.args.set.now number c.args.more at why) cut in
+    cut-further (set_run old.script old.budget old.shape) c.args.set.now c.args.past lead.attempts c.args.more number (omega (arith, made)) later before.fine at why with_it
 
 pub find_along-returns-then-is_some-clause-found :
     goal.find_along-returns-then-is_some-clause-found
@@ -87,13 +87,13 @@ find_with-returns-clause-found g t c =
     c.find_along.ensures.found
 
 pub find_with-returns-clause-cut : goal.find_with-returns-clause-cut
-find_with-returns-clause-cut g t c numbers why e =
+find_with-returns-clause-cut g t c at why e =
     let lead = c.args.lead.now in
     let fork = c.in_ok-fork.fork in
     let is = c.in_ok-fork.ensures in
     let same : IsOfSameRun lead fork = record { script = is.script; budget = is.budget; shape = is.shape } in
     let several : 1 < c.args.more = omega (arith, c.if-more-le1.false) in
-    let told = c.find_along.ensures.cut numbers why e in
-    cut-outside (set_run lead.script lead.budget lead.shape) c.args.set.now c.args.number c.args.more several numbers why
-    (subst (λ (xs : List ℕ). IsCutAfter (set_run lead.script lead.budget lead.shape) xs c.args.number (c.args.more - 1) numbers why) c.in_ok-numbers.ensures
-    (of-same lead fork same (λ (s : Script) (b : ℕ) (h : Shape). IsCutAfter (set_run s b h) c.in_ok-numbers.numbers c.args.number (c.args.more - 1) numbers why) told))
+    let told = c.find_along.ensures.cut at why e in
+    cut-outside (set_run lead.script lead.budget lead.shape) c.args.set.now c.args.number c.args.more several at why
+    (subst (λ (xs : List ℕ). IsCutAfter (set_run lead.script lead.budget lead.shape) xs c.args.number (c.args.more - 1) at why) c.in_ok-numbers.ensures
+    (of-same lead fork same (λ (s : Script) (b : ℕ) (h : Shape). IsCutAfter (set_run s b h) c.in_ok-numbers.numbers c.args.number (c.args.more - 1) at why) told))

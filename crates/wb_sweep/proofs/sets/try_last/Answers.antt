@@ -10,8 +10,9 @@ use Rattle.wb_tree.specs.declared.script.Script.{Script}
 use Rattle.wb_meaning.specs.Run.{is_bad_outcome, run}
 use Rattle.wb_runs.specs.Sets.{set_run}
 use Rattle.wb_runs.specs.Sweeps.{is_cut_outcome, is_fine}
-use Rattle.wb_sweep.specs.declared.set_answer.SetFault.TheVariants.{Cut}
-use Rattle.wb_sweep.specs.SetSearch.{IsBadSet}
+use Rattle.wb_sweep.specs.declared.fault.Unswept.TheVariants.{Cut}
+use Rattle.wb_runs.specs.declared.failures.Failing.TheVariants as failings
+use Rattle.wb_sweep.specs.Sweeping.{IsBadAt}
 use Rattle.wb_sweep.proofs.AnswerLemmas.{map_ok, map_some}
 use Rattle.wb_sweep.proofs.Errors.{of_err}
 use Rattle.wb_sweep.proofs.SetSearchLemmas.{cut-alone, fine-alone, found-alone}
@@ -23,16 +24,16 @@ of-set : (script : Script) (budget : ℕ) (shape : Shape) (rule : Rule) (set num
 of-set script budget shape rule set numbers number e f = ap (λ (r : Rule). run script r budget shape) (e ∙ ap Set f)
 
 pub returns-in-Cut-clause-cut : goal.returns-in-Cut-clause-cut
-returns-in-Cut-clause-cut g c numbers why e =
+returns-in-Cut-clause-cut g c at why e =
     let lead = c.args.lead.now in
     let set = c.args.set.now in
     let number = c.args.number in
     let runs : List ℕ → RunResult = set_run lead.script lead.budget lead.shape in
     let ran = of-set lead.script lead.budget lead.shape c.in_ok-rule.rule set c.in_ok-numbers.numbers number c.in_ok-rule.ensures c.in_ok-numbers.ensures in
     let ended : c.in_ok-outcome.outcome ≡ (runs (set ++ number ∷ [])).outcome = c.in_ok-outcome.ensures ∙ ap (λ (r : RunResult). r.outcome) ran in
-    let same : numbers ≡ c.in_ok-numbers.numbers = cc in
+    let same : at ≡ failings.Set c.in_ok-numbers.numbers = cc in
     let whys : c.in-Cut.why ≡ why = cc in
-    cut-alone runs set number (runs (set ++ number ∷ [])) numbers why (same ∙ c.in_ok-numbers.ensures) (sym ended ∙ c.in-Cut.is ∙ ap outcomes.Cut whys) refl
+    cut-alone runs set number (runs (set ++ number ∷ [])) at why (same ∙ ap failings.Set c.in_ok-numbers.ensures) (sym ended ∙ c.in-Cut.is ∙ ap outcomes.Cut whys) refl
 
 pub returns-then-is_fine-clause-fine : goal.returns-then-is_fine-clause-fine
 returns-then-is_fine-clause-fine g c none =
@@ -53,7 +54,7 @@ returns-clause-fine g c =
     let runs : List ℕ → RunResult = set_run lead.script lead.budget lead.shape in
     let ran = c.in_ok-run_result.ensures
     ∙ of-set lead.script lead.budget lead.shape c.in_ok-same_rule.same_rule set c.in_ok-numbers.numbers number c.in_ok-same_rule.ensures c.in_ok-numbers.ensures in
-    map_ok c.judge_set.result (λ found fine none. fine-alone runs set number (ap is_fine (sym ran) ∙ fine none)) c.judge_set.ensures.fine
+    map_ok c.judge_run.result (λ found fine none. fine-alone runs set number (ap is_fine (sym ran) ∙ fine none)) c.judge_run.ensures.fine
 
 pub returns-clause-found : goal.returns-clause-found
 returns-clause-found g c =
@@ -64,11 +65,11 @@ returns-clause-found g c =
     let told = c.in_ok-run_result.run_result in
     let ran = c.in_ok-run_result.ensures
     ∙ of-set lead.script lead.budget lead.shape c.in_ok-same_rule.same_rule set c.in_ok-numbers.numbers number c.in_ok-same_rule.ensures c.in_ok-numbers.ensures in
-    map_ok c.judge_set.result (λ found. map_some found (λ bad is.
-    found-alone runs set number told bad (subst (λ (xs : List ℕ). IsBadSet xs told bad) c.in_ok-numbers.ensures is) ran)) c.judge_set.ensures.bad
+    map_ok c.judge_run.result (λ found. map_some found (λ bad is.
+    found-alone runs set number told bad (subst (λ (xs : List ℕ). IsBadAt (failings.Set xs) told bad) c.in_ok-numbers.ensures is) ran)) c.judge_run.ensures.bad
 
 pub returns-clause-cut : goal.returns-clause-cut
-returns-clause-cut g c numbers why e =
+returns-clause-cut g c at why e =
     let lead = c.args.lead.now in
     let set = c.args.set.now in
     let number = c.args.number in
@@ -76,7 +77,7 @@ returns-clause-cut g c numbers why e =
     let told = c.in_ok-run_result.run_result in
     let ran = c.in_ok-run_result.ensures
     ∙ of-set lead.script lead.budget lead.shape c.in_ok-same_rule.same_rule set c.in_ok-numbers.numbers number c.in_ok-same_rule.ensures c.in_ok-numbers.ensures in
-    let (because, named, cut) = of_err _ c.judge_set.result (Cut numbers why) e c.judge_set.ensures.cut in
-    let same : numbers ≡ c.in_ok-numbers.numbers = cc in
+    let (because, named, cut) = of_err _ c.judge_run.result (Cut at why) e c.judge_run.ensures.cut in
+    let same : at ≡ failings.Set c.in_ok-numbers.numbers = cc in
     let whys : because ≡ why = cc in
-    cut-alone runs set number told numbers why (same ∙ c.in_ok-numbers.ensures) (subst (λ w. told.outcome ≡ outcomes.Cut w) whys cut) ran
+    cut-alone runs set number told at why (same ∙ ap failings.Set c.in_ok-numbers.ensures) (subst (λ w. told.outcome ≡ outcomes.Cut w) whys cut) ran

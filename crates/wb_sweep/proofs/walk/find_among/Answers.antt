@@ -6,8 +6,8 @@ use Rattle.wb_meaning.specs.declared.run.RunResult.{RunResult}
 use Rattle.wb_meaning.specs.declared.run.Why.{Why}
 use Rattle.wb_tree.specs.declared.script.Script.{Script}
 use Rattle.wb_meaning.specs.Run.{is_bad}
-use Rattle.wb_sweep.specs.declared.fault.SweepFault.{SweepFault}
-use Rattle.wb_sweep.specs.declared.fault.SweepFault.TheVariants.{Cut, NoMemory}
+use Rattle.wb_sweep.specs.declared.fault.Unswept.{Unswept}
+use Rattle.wb_sweep.specs.declared.fault.Unswept.TheVariants.{Cut, NoMemory}
 use Rattle.wb_sweep.specs.declared.found.Found.{Found}
 use Rattle.wb_sweep.specs.Meetings.{IsScout}
 use Rattle.wb_sweep.specs.Beside.{next_failing, next_run}
@@ -73,7 +73,7 @@ returns-in_err-found-clause-cut g c at why e =
     let is : c.try_next.result ≡ Err (Cut at why) = search rules in
     let told : (Cut at why ≡ NoMemory) ⊎ ((met : Why) × (c.args.from ≤ c.attempts-number.result + 1) × (Cut at why ≡ Cut (next_failing c.args.failures lead) met)
     × ((next_run c.args.failures lead).outcome ≡ outcomes.Cut met)) =
-    subst (λ (r : Result (Option Found) SweepFault). IfErr r (λ fault. (fault ≡ NoMemory) ⊎ ((met : Why) × (c.args.from ≤ c.attempts-number.result + 1)
+    subst (λ (r : Result (Option Found) Unswept). IfErr r (λ fault. (fault ≡ NoMemory) ⊎ ((met : Why) × (c.args.from ≤ c.attempts-number.result + 1)
     × (fault ≡ Cut (next_failing c.args.failures lead) met) × ((next_run c.args.failures lead).outcome ≡ outcomes.Cut met)))) is c.try_next.ensures.cut in
     elim told [
       | inl none ↦ cc

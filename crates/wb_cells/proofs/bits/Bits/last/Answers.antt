@@ -1,4 +1,4 @@
-use Rattle.std.proofs.Common.{◌≡◌, ◌+◌, ◌-◌, ◌*◌, ◌/◌, ◌%◌, inl, inr, ℕ, Some, None, get_or, false, length, ap, sym, ◌∙◌, arith}
+use Rattle.std.proofs.Common.{◌≡◌, ◌+◌, ◌-◌, ◌*◌, ◌/◌, ◌%◌, inl, inr, ℕ, Some, None, get_or, false, length, ap, sym, subst, ◌∙◌, arith}
 use Rattle.std.proofs.lemmas.Bool.{cases_lt}
 use Rattle.std.proofs.lemmas.List.{get_or_past}
 use Rattle.wb_cells.specs.Bits.{bits_of, IsLastIn}
@@ -13,16 +13,16 @@ loop-stop-init c = (
   λ k low high. get_or_past c.args.self.now k false (omega (arith, low, high, c.min-stop.ensures, c.count.ensures.count)),
 )
 
-pub bounds-words-top : goal.bounds-words-top
-bounds-words-top c =
-    omega (arith, c.loop-stop.invariant.1, c.loop-stop-test.true, ap length (sym c.self.view_is), length-bits_of c.self.inside.words.items, ap length c.as_slice-words.ensures.value)
+pub word-requires : goal.word-requires
+word-requires c =
+    omega (arith, c.loop-stop.invariant.1, c.loop-stop-test.true, ap length (sym c.self.view_is), length-bits_of c.self.inside.words)
 
 pub returns-then-from-at : goal.returns-then-from-at
 returns-then-from-at c =
-    let words = c.as_slice-words.result.now in
-    let view : bits_of words ≡ c.args.self.now = ap bits_of c.as_slice-words.ensures.value ∙ c.self.view_is in
+    let words = c.self.inside.words in
+    let view = c.self.view_is in
     let top = c.loop-stop.stop - 1 in
-    let last : IsLastIn (get_or words (top / 32) 0) (top % 32) (Some c.in-Some.bit) = c.in-Some.ensures in
+    let last = subst (λ w. IsLastIn w (top % 32) (Some c.in-Some.bit)) c.word.ensures c.in-Some.ensures in
     let same : (k : ℕ) → get_or c.args.self.now k false ≡ get_or (bits_of words) k false = λ k. ap (λ b. get_or b k false) (sym view) in (
       c.if-from-at.true,
       omega (arith, last.0, c.loop-stop.invariant.0, c.loop-stop-test.true),
@@ -35,10 +35,10 @@ returns-then-from-at c =
 
 pub returns-else-from-at : goal.returns-else-from-at
 returns-else-from-at c =
-    let words = c.as_slice-words.result.now in
-    let view : bits_of words ≡ c.args.self.now = ap bits_of c.as_slice-words.ensures.value ∙ c.self.view_is in
+    let words = c.self.inside.words in
+    let view = c.self.view_is in
     let top = c.loop-stop.stop - 1 in
-    let last : IsLastIn (get_or words (top / 32) 0) (top % 32) (Some c.in-Some.bit) = c.in-Some.ensures in
+    let last = subst (λ w. IsLastIn w (top % 32) (Some c.in-Some.bit)) c.word.ensures c.in-Some.ensures in
     λ k low high. elim (cases_lt k c.loop-stop.stop) [
       | inl below ↦ ap (λ b. get_or b k false) (sym view) ∙ word_past words top c.in-Some.bit last k (omega (arith, low, c.if-from-at.false)) (omega (arith, below))
       | inr past ↦ c.loop-stop.invariant.2 k past high
@@ -46,10 +46,10 @@ returns-else-from-at c =
 
 pub loop-stop-preserved : goal.loop-stop-preserved
 loop-stop-preserved c =
-    let words = c.as_slice-words.result.now in
-    let view : bits_of words ≡ c.args.self.now = ap bits_of c.as_slice-words.ensures.value ∙ c.self.view_is in
+    let words = c.self.inside.words in
+    let view = c.self.view_is in
     let top = c.loop-stop.stop - 1 in
-    let none : IsLastIn (get_or words (top / 32) 0) (top % 32) None = c.in_default.ensures in (
+    let none = subst (λ w. IsLastIn w (top % 32) None) c.word.ensures c.in_default.ensures in (
       omega (arith, c.loop-stop.invariant.0),
       omega (arith, c.loop-stop.invariant.1),
       λ k low high. elim (cases_lt k c.loop-stop.stop) [

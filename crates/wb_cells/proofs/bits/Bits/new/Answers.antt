@@ -4,4 +4,4 @@ use Rattle.wb_cells.proofs.Packing.{bits_of-nil}
 use Rattle.wb_cells.proofs.bits.Bits.new.Goals as goal
 
 pub returns : goal.returns
-returns c = ap bits_of c.new.ensures.items ∙ bits_of-nil
+returns c = ap bits_of c.new.ensures ∙ bits_of-nil

@@ -1,12 +1,8 @@
 -- Proof: go_to. The run goes on, and stays one of the same as the forks.
+use Rattle.wb_lengths.proofs.ForkLemmas.{of-same}
 use Rattle.wb_lengths.proofs.forks.Forks.go_to.Goals as goal
 
-pub returns-then-run : goal.returns-then-run
-returns-then-run c script budget shape are is = ((c.loop-turn.invariant script budget shape are is).0, tt)
-
-pub loop-turn-preserved : goal.loop-turn-preserved
-loop-turn-preserved c script budget shape are is =
-    let on = c.loop-turn.invariant script budget shape are is in c.in_ok-run.ensures script budget shape on.0 on.1
-
-pub returns : goal.returns
-returns c script budget shape are is = ((c.loop-turn.invariant script budget shape are is).0, tt)
+pub loop-attempt-preserved : goal.loop-attempt-preserved
+loop-attempt-preserved c script budget shape are is =
+    let on = c.loop-attempt.invariant script budget shape are is in
+    c.approach.ensures script budget shape on.0 (of-same script budget shape _ c.go_to_attempt.new.self c.go_to_attempt.ensures on.1)

@@ -2,5 +2,5 @@
 use Rattle.wb_lengths.specs.Forks.{GoesOn}
 use Rattle.wb_lengths.proofs.forks.Forks.go_to_end.Given as goal
 
-abbrev pub invariant-loop-turn : goal.invariant-loop-turn
-invariant-loop-turn l = GoesOn l.fn.self l.fn.run l.self l.run
+abbrev pub invariant-loop-attempt : goal.invariant-loop-attempt
+invariant-loop-attempt l = GoesOn l.fn.self l.fn.run l.self l.run
