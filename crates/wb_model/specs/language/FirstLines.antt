@@ -1,2 +1,0 @@
--- Given on from `wb_language`.
-pub use Rattle.wb_language.specs.FirstLines.{Said, IsOfNone, IsFirstLine, IsOfNoLine}

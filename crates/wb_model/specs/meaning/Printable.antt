@@ -1,2 +1,0 @@
--- Given on from `wb_meaning`.
-pub use Rattle.wb_meaning.specs.Printable.{IsPrintable, ArePrintable}

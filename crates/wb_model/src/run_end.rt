@@ -1,3 +1,0 @@
-//! Re-exported from `wb_runs`.
-
-pub use wb_runs::run_end::RunEnd;
