@@ -27,13 +27,10 @@ from tools.documents.help_files import BASH, FISH, MAN_PAGE, NAME, ZSH
 
 # the most processes for one crate: further ones would find nothing to do
 AT_ONCE = 8
-
 # a crate of fewer lines gains nothing from further processes: most of its time is what it loads
 LARGE = 2_000
-
 # a crate of so many lines is what all that stands on it waits for longest: it gets half of the processors at once
 LARGEST = 10_000
-
 # where each file goes that is installed, below the prefix
 PLACES = {
     PROGRAM: f"bin/{NAME}",
@@ -42,7 +39,6 @@ PLACES = {
     ZSH: f"share/zsh/site-functions/_{NAME}",
     FISH: f"share/fish/vendor_completions.d/{NAME}.fish",
 }
-RUN, READ = 0o755, 0o644
 
 
 class Unproved(Exception):
@@ -128,7 +124,7 @@ def install(prefix: Path, places: dict[Path, str] = PLACES) -> None:
         target.parent.mkdir(parents=True, exist_ok=True)
         beside = target.with_name(f".{target.name}.new")
         shutil.copyfile(source, beside)
-        beside.chmod(RUN if os.access(source, os.X_OK) else READ)
+        beside.chmod(0o755 if os.access(source, os.X_OK) else 0o644)
         beside.replace(target)
         print(target)
 

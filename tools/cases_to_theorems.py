@@ -11,7 +11,6 @@ import json
 import re
 import sys
 import textwrap
-from collections import Counter
 from collections.abc import Iterable
 from itertools import groupby
 from pathlib import Path
@@ -168,26 +167,23 @@ def rule_of(a: argparse.Namespace) -> str:
     return next((rule for value, rule in given if value is not None), "R.Unlimited")
 
 
-def accepted(case: Case, name: str) -> tuple[Accepted, str] | str:
-    """An accepted case with the text of its script, or why it is left out."""
-    if case.name.split(".")[-1] not in TASKS:
-        return "no report"
-    if case.status not in (FINE, FOUND, CUT):
-        return "not accepted"
+def accepted(case: Case, name: str) -> tuple[Accepted, str] | None:
+    """An accepted case with the text of its script; None if it is left out: it has no report, is about sets of failures or a part of the
+    pairs, or is too long."""
+    if case.name.split(".")[-1] not in TASKS or case.status not in (FINE, FOUND, CUT):
+        return None
     a = arguments_of(case)
     if a.failures is not None or a.sets:
-        return "sets of failures"
+        return None
     report = case.stdout.decode().removesuffix("\n").split("\n")
     if a.json:
         report = list(json.loads(case.stdout)["lines"])
     shape = f"{a.budget} ({'shaped_moving' if a.moving else 'shaped'} {a.min} {a.step})"
     it = Accepted(f"script_{name}", shape, a, report)
-    if a.task == "run" and int(report[-1].removeprefix("steps ")) > MOST_STEPS:
-        return f"more than {MOST_STEPS} steps"
-    if a.task == "lengths" and sum(line.startswith("from ") for line in report) > MOST_RANGES:
-        return f"more than {MOST_RANGES} ranges of lengths"
-    if a.pairs and it.is_part():
-        return "a part of the pairs"
+    is_long = a.task == "run" and int(report[-1].removeprefix("steps ")) > MOST_STEPS
+    has_many = a.task == "lengths" and sum(line.startswith("from ") for line in report) > MOST_RANGES
+    if is_long or has_many or a.pairs and it.is_part():
+        return None
     return it, ((ROOT / a.file).read_bytes() if a.file else case.script).decode()
 
 
@@ -200,23 +196,19 @@ def theorem(name: str, it: Accepted, text: str) -> str:
     return f"{script}{name} : {claim}\nunfolding everything\n{name} = {proof}\n"
 
 
-def theorems_of(cases: list[Case]) -> tuple[dict[str, dict[str, str]], Counter[str]]:
-    """The theorems of these cases by what they are about and their names, and how many cases are left out for which reason."""
+def theorems_of(cases: list[Case]) -> dict[str, dict[str, str]]:
+    """The theorems of these cases by what they are about and their names."""
     theorems: dict[str, dict[str, str]] = {}
-    left_out: Counter[str] = Counter()
     for case in cases:
         name = re.sub(r"^(?![A-Za-z])", "case_", re.sub(r"[^A-Za-z0-9]", "_", case.name))
         try:
-            told = accepted(case, name)
-            if isinstance(told, str):
-                left_out[told] += 1
-                continue
-            if any(name in some for some in theorems.values()):
-                sys.exit(f"two cases are called {name}")
-            theorems.setdefault(case.group.split("/")[0], {})[name] = theorem(name, *told)
+            if told := accepted(case, name):
+                if any(name in some for some in theorems.values()):
+                    sys.exit(f"two cases are called {name}")
+                theorems.setdefault(case.group.split("/")[0], {})[name] = theorem(name, *told)
         except (LookupError, ValueError) as unknown:
             sys.exit(f"{case.place}: {unknown!r}")
-    return theorems, left_out
+    return theorems
 
 
 def shorthands(lines: list[str]) -> str:
@@ -306,7 +298,7 @@ def main(words: list[str]) -> int:
         groups = [read(file, name) for name, file in files_in(chosen.folder).items() if name.split("/")[0] not in LEFT_OUT]
     except CaseError as error:
         sys.exit(str(error))
-    theorems, left_out = theorems_of([case for it in groups for case in it.cases()])
+    theorems = theorems_of([case for it in groups for case in it.cases()])
     files = {chosen.out / place: text for place, text in files_of(theorems).items()}
     places = [*(chosen.out / PROOFS).glob("*"), chosen.out / f"{PROOFS}.antt", chosen.out / SHARED]
     held = {it: it.read_text() for it in places if it.is_file()}
@@ -316,6 +308,5 @@ def main(words: list[str]) -> int:
     for file in other:
         file.parent.mkdir(parents=True, exist_ok=True)
         file.write_text(files[file]) if file in files else file.unlink()
-    count = sum(map(len, theorems.values()))
-    print("; ".join([f"{count} theorems", *(f"left out {count}: {why}" for why, count in left_out.items())]))
+    print(f"{sum(map(len, theorems.values()))} theorems")
     return 0

@@ -12,7 +12,6 @@ from pathlib import Path
 from typing import Any, NamedTuple
 
 ROOT = Path(__file__).resolve().parent.parent
-
 TOOLS, CASES, EXAMPLES, DOCS = (ROOT / it for it in ("tools", "cases", "examples", "docs"))
 
 # the crate whose `main` the program is, and the program once it is built
@@ -26,13 +25,10 @@ def examples() -> list[Path]:
 
 # the exit statuses of the program
 FINE, FOUND, REFUSED, CUT, WANT_OF_MEMORY, READ_OR_WRITE_FAULT, COMMAND_LINE_FAULT = range(7)
-
 # the greatest length of a heap, in bytes
 CEILING = 16_777_216
-
 # how long a run may take, in seconds, if a tool says nothing else
 SECONDS = 120
-
 # the variable that says how many columns messages may have, and the environment without it
 COLUMNS = "COLUMNS"
 ENVIRONMENT = {name: value for name, value in os.environ.items() if name != COLUMNS}
@@ -117,10 +113,6 @@ class Trials(Tally):
     def look(self, what: str, holds: bool, shown: object = "") -> None:
         """Counts whether something holds, and says so where it doesn't."""
         self.check(holds, f"{what}: not so: {shown!r}")
-
-    def expect(self, what: str, told: object, wanted: object) -> None:
-        """Counts whether what was told is what is wanted."""
-        self.check(told == wanted, f"{what}: {told!r} in place of {wanted!r}")
 
 
 def summed(tallies: Iterable[Tally]) -> Tally:

@@ -27,10 +27,8 @@ from tools.common import PROGRAM, PROGRAM_CRATE, ROOT, TOOLS
 
 # the folders that a crate is made of: its wrong bodies, and what it is run on, are no part of it
 PARTS = ("src", "specs", "proofs")
-
 # the exit status of ./workbench and ./build where there is no program to answer
 NOT_BUILT = 70
-
 # what a process of the prover takes at most, and a tool with the program that it runs, in bytes
 MEMORY, RUN_MEMORY = 3 << 30, 512 << 20
 

@@ -172,13 +172,10 @@ def in_words(sort: str, words: list[str], turn: int) -> tuple[list[str], str]:
     return ([*words[:place], made, *words[place + 1 :]], made) if len(word) > 2 else (words, "")
 
 
-def sources() -> list[str]:
-    cases = [it.script.decode() for it in cases_of("guide")]
-    return [it.read_text() for it in examples()] + [it for it in cases if it.strip()]
-
-
-def mistakes(scripts: list[str]) -> Iterator[Mistake]:
+def mistakes() -> Iterator[Mistake]:
     """Mistakes without end, each in another script than the one before, of another sort, and further on."""
+    cases = [it.script.decode() for it in cases_of("guide")]
+    scripts = [it.read_text() for it in examples()] + [it for it in cases if it.strip()]
     for turn in count():
         lines = scripts[turn % len(scripts)].splitlines()
         if made := mistake(SORTS[turn % len(SORTS)], lines, turn * 7 % len(lines), turn // len(SORTS)):
@@ -193,7 +190,7 @@ def count_mistakes(words: list[str]) -> int:
     """
     program, tally, refused, named = program_parser(count_mistakes.__doc__).parse_args(words).program, Tally(), 0, 0
     with tempfile.TemporaryDirectory() as folder:
-        for made in mistakes(sources()):
+        for made in mistakes():
             Path(folder, "script.oom").write_text("\n".join(made.lines) + "\n")
             answer = answer_of(program, "run", "script.oom", cwd=folder)
             if answer.status != REFUSED:

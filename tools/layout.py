@@ -13,12 +13,11 @@ import re
 import shutil
 import subprocess
 from collections import Counter
-from collections.abc import Iterator
 from pathlib import Path
 
 from tools.common import ROOT, TOOLS, Tally, parser_of
 from tools.crates import Crates, fault_of_layout
-from tools.edits.wrong_body_edits import MUST_FAIL, WRONG_BODIES, functions_in, read_edits
+from tools.edits.verdicts import MUST_FAIL, WRONG_BODIES, functions_in, read_edits
 
 KEPT = TOOLS / "no-memory.txt"
 
@@ -30,24 +29,18 @@ VALUE = re.compile(r"(?<![<&])\b(?:AllocError|NoMemory)\b(?!::|>)")
 NO_VALUE = re.compile(r"(?m)//.*|^.*?=>|^ *\| .*|\blet [^=]*=|[=!]= [\w:()]+|\bmatches!\([^;]*?\)")
 
 
-def bodies(crates: Crates) -> Iterator[str]:
-    """The bodies that make such an error, each by its file and its function."""
-    for crate in sorted(it for it in crates.lines if not APART.fullmatch(it)):
-        for file in sorted((crates.folder(crate) / "src").rglob("*.rt")):
-            yield from (f"{file.relative_to(crates.root / 'crates')} {it}" for it in makers(file.read_text(encoding="utf-8")))
-
-
 def makers(text: str) -> list[str]:
-    """The functions of a file whose bodies make such an error, in the order of their names; behind a name how often, if more than once."""
+    """The functions of a file whose bodies make such an error; behind a name how often, if more than once."""
     lines, found = text.splitlines(keepends=True), Counter[str]()
     for name, body in functions_in(lines):
         found[name] += len(VALUE.findall(NO_VALUE.sub("", "".join(lines[body.start : body.stop]))))
-    return sorted(f"{name} {count}" if count > 1 else name for name, count in found.items() if count)
+    return [f"{name} {count}" if count > 1 else name for name, count in found.items() if count]
 
 
 def differences(crates: Crates, kept: Path = KEPT) -> list[str]:
     """The bodies that make such an error and aren't listed with a reason, and those that are listed and make none."""
-    found = set(bodies(crates))
+    files = [file for crate in crates.lines if not APART.fullmatch(crate) for file in (crates.folder(crate) / "src").rglob("*.rt")]
+    found = {f"{it.relative_to(crates.root / 'crates')} {maker}" for it in files for maker in makers(it.read_text(encoding="utf-8"))}
     rows = (it.partition(": ") for it in kept.read_text(encoding="utf-8").splitlines() if it and not it.startswith("#"))
     listed = {body for body, _, reason in rows if reason}
     new = [f"{it}: makes the error for memory that ran out, and tools/no-memory.txt has no reason for it" for it in sorted(found - listed)]

@@ -178,7 +178,7 @@ class Chosen(NamedTuple):
         answer, fault = tried(program, case.args, case.script, partial(fault_of, case))
         if answer and fault and is_writing:
             self.block.cases[self.block.cases.index(case)] = with_answer(case, answer)
-            self.group.write()
+            self.group.file.write_text(self.group.text(), encoding="ascii")
             yield True, f"{case.place}: written: {fault}"
         else:
             yield not fault, f"{case.place}: {fault}" if fault else ""

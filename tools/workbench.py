@@ -25,27 +25,11 @@ from tools.crates import NOT_BUILT, Crates, alone_in, is_being_built
 
 # the name by which the program calls itself
 NAME = "workbench"
-
 # where the programs are kept, below the repository, and how many: those that were used last
 FOLDER = Path("out", "unproved")
 KEPT = 3
-
 # what `rt try` reads of a crate
 SOURCES = "src"
-
-# how `rt try` calls what it compiled, and its words by which its interpreter, which runs the program before, ends at once
-WHAT_RUNS = "program"
-COMPILE_ALONE = ("--steps", "1")
-
-# the file by which the toolchain says which one it is, and what loads a program
-IDENTITY = "KIT-ID"
-LOADER = "ld-linux-x86-64.so.2"
-
-# how often it is looked whether the program runs, in seconds
-PAUSE = 0.05
-
-# what would change the checks that are compiled in
-CHECKS = "ASAN_OPTIONS"
 
 
 class NoProgram(Exception):
@@ -62,7 +46,8 @@ class Unproved:
 
     def place(self, crates: Crates) -> Path:
         """Where the program of these sources is kept, by their checksum and the toolchain's."""
-        checksum = hashlib.sha256((self.toolchain / IDENTITY).read_bytes() + listed(crates).encode())
+        # the toolchain says by this file which one it is
+        checksum = hashlib.sha256((self.toolchain / "KIT-ID").read_bytes() + listed(crates).encode())
         for crate in program_crates(crates):
             for file in sorted(it for it in (crates.folder(crate) / SOURCES).rglob("*") if it.is_file()):
                 text = file.read_bytes()
@@ -118,7 +103,8 @@ class Unproved:
         pipe, made, messages = room / "script", room / "made", room / "messages"
         os.mkfifo(pipe)
         made.mkdir()
-        command = [self.command, "try", *COMPILE_ALONE, "--", "run", pipe]
+        # its interpreter, which runs the program before, ends at once
+        command = [self.command, "try", "--steps", "1", "--", "run", pipe]
         with messages.open("wb") as said, subprocess.Popen(
             command,
             cwd=room / "crates" / PROGRAM_CRATE,
@@ -129,7 +115,7 @@ class Unproved:
         ) as running:
             try:
                 while running.poll() is None and not target.exists():
-                    time.sleep(PAUSE)
+                    time.sleep(0.05)
                     copy_held(target, pipe, made)
             finally:
                 # it removes what it has made, and ends what it runs
@@ -149,7 +135,7 @@ class Unproved:
     def words(self, program: Path) -> list[str]:
         """The words that run a program with the libraries that it was linked with, as `rt try` does."""
         libraries = self.toolchain / "toolchain" / "lib"
-        return [str(libraries / LOADER), "--inhibit-cache", "--library-path", str(libraries), "--argv0", NAME, str(program)]
+        return [str(libraries / "ld-linux-x86-64.so.2"), "--inhibit-cache", "--library-path", str(libraries), "--argv0", NAME, str(program)]
 
 
 def copy_held(target: Path, pipe: Path, made: Path) -> None:
@@ -161,7 +147,7 @@ def copy_held(target: Path, pipe: Path, made: Path) -> None:
         return
     try:
         # there is none where the toolchain's interpreter is what reads
-        for program in made.rglob(WHAT_RUNS):
+        for program in made.rglob("program"):
             shutil.copyfile(program, target)
             target.chmod(0o755)
             # whole on the disk too, before it gets its name
@@ -180,7 +166,8 @@ def listed(crates: Crates) -> str:
 
 
 def environment() -> dict[str, str]:
-    return {name: value for name, value in os.environ.items() if name != CHECKS}
+    # this would change the checks that are compiled in
+    return {name: value for name, value in os.environ.items() if name != "ASAN_OPTIONS"}
 
 
 def say(text: str) -> None:

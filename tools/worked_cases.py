@@ -175,9 +175,6 @@ class Group:
             name, messages = named[1] if named else default_name(title, words), None if stderr is None else self.text_of(stderr)
             block.cases.append(Case(name, self.name, block.script, words, self.text_of(stdout), int(status), messages))
 
-    def write(self) -> None:
-        self.file.write_text(self.text(), encoding="ascii")
-
 
 def default_name(script_name: str, words: list[str]) -> str:
     """The name of a case of which nothing else is said: that of its script, and its command."""

@@ -7,15 +7,10 @@ mod cells;
 mod frames;
 mod heap;
 mod holes;
-mod lines;
 mod machine;
-mod names;
-mod notes;
-mod operands;
 mod read;
 mod report;
 mod script;
-mod sweep;
 mod texts;
 
 use attempts::Rule;
@@ -76,11 +71,11 @@ fn answer(command: &Command, report: &mut Vec<u8>) -> io::Result<i32> {
     }
     let script = read::read(&text);
     Ok(match command.task.as_str() {
-        "run" => sweep::run(&script, command.setup, report),
-        "size" => sweep::size(&script, command.setup, report),
-        "sweep" => sweep::sweep(&script, command.setup, report),
-        "check" => match sweep::size(&script, command.setup, report) {
-            0 => sweep::sweep(&script, command.setup, report),
+        "run" => report::run(&script, command.setup, report),
+        "size" => report::size(&script, command.setup, report),
+        "sweep" => report::sweep(&script, command.setup, report),
+        "check" => match report::size(&script, command.setup, report) {
+            0 => report::sweep(&script, command.setup, report),
             status => status,
         },
         _ => COMMAND_LINE,

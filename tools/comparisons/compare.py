@@ -20,8 +20,7 @@ from itertools import islice
 from pathlib import Path
 
 from tools.common import CUT, FINE, FOUND, PROGRAM, ROOT, Answer, NoAnswer, Tally, examples, program_parser
-from tools.comparisons.answers import Difference, Script
-from tools.comparisons.made_scripts import SCRIPTS, SEED, SORTS, scripts
+from tools.comparisons.scripts import SCRIPTS, SEED, SORTS, Difference, Script, scripts
 from tools.comparisons.single_runs import compare_lengths, compare_lists, compare_moving, compare_steps
 from tools.comparisons.sweeps import BY_NUMBER, FAILURES, LISTINGS, PAIRS, SETS, SINGLE, Sweep, Swept
 from tools.crates import RUN_MEMORY, processors
@@ -34,18 +33,15 @@ FORKED = """
 sweep/eighth-push-grows-the-cleanup-cell.check sweep/unpushed-object-leaks-when-construction-fails.check
 first-path/freed-neighbours-merge.run
 """.split()
-
 # longer scripts, as code is that is tested, in which some sets of failures or none show a mistake
 PROGRAMS = [
     *(f"programs/applications/{it}.sweep" for it in ("album", "browser", "calendar", "contacts", "editor")),
     *(f"programs/services/{it}.sweep" for it in ("installer", "mailbox", "messages", "player", "selftest")),
 ]
-
 # the cases whose tables of lengths have so many rows that most runs go on from copies of others
 MANY_ROWS = """
 lengths/cells-that-halve-count-in-binary.lengths lengths/cells-that-halve-past-a-failure-of-the-script.lengths
 """.split()
-
 # the cases about whose scripts wrong answers are given: one failure shows something, none, only two, and one that is cut
 LIED = """
 sweep/unpushed-object-leaks-when-construction-fails.sweep sweep/pushed-object-survives-every-failure.sweep
@@ -54,7 +50,6 @@ sweep/leak-that-needs-two-failures.sweep sweep/failure-that-outruns-the-budget.s
 # a budget that cuts the last of them soon; how many lines of an answer are changed; and the numbers that steps tell of cells and attempts
 LIED_BUDGET, CHANGED = ("--budget", "200"), 30
 OF_STEPS = re.compile(rb"(?<=place )\d+|(?<=attempt )\d+|(?<=cell )\d+|\d+(?= bytes)")
-
 # what ends the comparison of a script: an answer that differs, is late, or is no report at all
 FAULTS = (Difference, NoAnswer, ValueError, LookupError)
 

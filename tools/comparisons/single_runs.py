@@ -15,7 +15,7 @@ from itertools import pairwise
 from typing import NamedTuple
 
 from tools.common import CEILING, CUT, FINE, FOUND
-from tools.comparisons.answers import Numbers, Report, Script, Words, spelled
+from tools.comparisons.scripts import Numbers, Report, Script, Words, spelled
 from tools.comparisons.sweeps import PAIRS, listed
 
 # which attempts fail by an option with a number, as far as a list goes, which has at most so many
@@ -32,10 +32,8 @@ PAST = 16_777_216
 # which first attempts fail alone where cells move, and which together; the shape of another heap
 MOST_MOVED, LISTS = 4, ("2,3", "3,4", "2,4,5,6")
 OTHER_SHAPE: Words = ("--min", 0, "--step", 16)
-
 # how many lengths are drawn at random
 DRAWN = 50
-
 # the line of an explanation that names the command which shows the steps
 FOLLOWED = re.compile(rb"^help: see it step by step: .*\n", re.MULTILINE)
 # how many attempts are made to fail, one after the other; how many steps are shown of each end, where not all are

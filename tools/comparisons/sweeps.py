@@ -14,7 +14,7 @@ from itertools import islice
 from typing import TypeVar
 
 from tools.common import CEILING, CUT, FINE, FOUND
-from tools.comparisons.answers import Numbers, Report, Script, Words, spelled
+from tools.comparisons.scripts import Numbers, Report, Script, Words, spelled
 
 T = TypeVar("T")
 

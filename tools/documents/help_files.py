@@ -2,21 +2,18 @@
 
 They are kept by hand: docs/workbench.1, and the files of bash, zsh and fish in completions/. From the help follow all lines with commands
 and options that a shell's file must have, in their order, and what each section of the man page must say, of which only words are compared.
-The exit statuses must be as REPORTS.md has them, and the pages and examples that the man page names must be there. The lines of the help
-must have at most as many columns as the variable COLUMNS says, or 80, unless they are a single word.
+The exit statuses must be as REPORTS.md has them, and the pages and examples that the man page names must be there. How wide the help is,
+sessions.txt says.
 """
 
 import re
-from collections.abc import Callable, Iterator
+from collections.abc import Iterator
 from difflib import unified_diff
 from pathlib import Path
 from typing import NamedTuple
 
 from tools.common import COLUMNS, DOCS, ENVIRONMENT, ROOT, Tally, answer_of, program_parser
-
-# more columns than any line of the help has, those where nothing says how many, and some that are said, or aren't
-WIDE, USUAL = "10000", "80"
-SAID, NOT_SAID = ("1", "40", "80", "100"), ("", "0", "-5", "wide")
+from tools.sessions import run_section
 
 NAME = "workbench"
 MAN_PAGE, COMPLETIONS = DOCS / f"{NAME}.1", ROOT / "completions"
@@ -59,27 +56,12 @@ class Help(NamedTuple):
 Told = dict[str, Help]
 
 
-def words_of_help(program: Path, command: str, columns: str | None) -> str:
-    """The help on a command, or on the program itself, where the variable says so many columns."""
-    said = ENVIRONMENT if columns is None else ENVIRONMENT | {COLUMNS: columns}
-    return answer_of(program, "help", *([command] if command else []), env=said).messages.decode("ascii")
+def help_of(program: Path) -> Told:
+    """What the program's help says of itself and of each command, where lines may have more columns than any has."""
 
+    def ask(*command: str) -> str:
+        return answer_of(program, "help", *command, env=ENVIRONMENT | {COLUMNS: "10000"}).messages.decode("ascii")
 
-def width_faults(program: Path, commands: list[str]) -> Iterator[str]:
-    """Which lines of the help have more columns than they may, and what is another text then."""
-    for command in commands:
-        wide, usual = words_of_help(program, command, WIDE), words_of_help(program, command, USUAL)
-        for columns in SAID:
-            told = words_of_help(program, command, columns)
-            long = [it for it in told.splitlines() if len(it) > int(columns) and " " in it.strip()]
-            yield from (f"{COLUMNS}={columns}: too long: {it}" for it in long)
-            if told.split() != wide.split():
-                yield f"{COLUMNS}={columns}: the help on '{command}' has other words"
-        yield from (f"{COLUMNS}={it}: not as 80" for it in (None, *NOT_SAID) if words_of_help(program, command, it) != usual)
-
-
-def help_of(ask: Callable[..., str]) -> Told:
-    """What the program's help says; it is asked with the name of a command, or none."""
     whole = ask()
     commands = {command: help_in(about, ask(command) if command != "help" else "") for command, about in COMMAND.findall(whole)}
     return {"": help_in(whole.partition("\n")[0], whole), **commands}
@@ -174,27 +156,23 @@ def wanted_sections(told: Told, reports: str) -> dict[str, list[str]]:
     return {name: [plain(it) for it in texts] for name, texts in wanted.items()}
 
 
-def compared(told: Told, texts: dict[Path, str], reports: str) -> Iterator[tuple[str, list[str], list[str]]]:
+def compared(told: Told, reports: str) -> Iterator[tuple[str, list[str], list[str]]]:
     """What is compared: its name, the lines that it must have, and those that it has."""
     for file, lines in ((BASH, of_bash(told)), (ZSH, of_zsh(told)), (FISH, of_fish(told))):
-        yield file.name, list(lines), [it for it in map(str.strip, texts[file].splitlines()) if COMPARED[file].fullmatch(it)]
-    found = sections_of(texts[MAN_PAGE])
+        found = map(str.strip, file.read_text(encoding="utf-8").splitlines())
+        yield file.name, list(lines), [it for it in found if COMPARED[file].fullmatch(it)]
+    page = MAN_PAGE.read_text(encoding="utf-8")
+    sections = sections_of(page)
     for name, wanted in wanted_sections(told, reports).items():
-        yield f"man page, {name}", wanted, found.get(name, [])
-    named = sorted(set(NAMED.findall(texts[MAN_PAGE].replace("\\", ""))))
+        yield f"man page, {name}", wanted, sections.get(name, [])
+    named = sorted(set(NAMED.findall(page.replace("\\", ""))))
     yield "what the man page names", [it for it in named if (ROOT / it).is_file()], named
-
-
-def read() -> dict[Path, str]:
-    return {it: it.read_text(encoding="utf-8") for it in (MAN_PAGE, BASH, ZSH, FISH)}
 
 
 def main(words: list[str]) -> int:
     program, tally = program_parser(__doc__).parse_args(words).program, Tally()
-    told = help_of(lambda command="": words_of_help(program, command, WIDE))
-    for name, wanted, found in compared(told, read(), (DOCS / "REPORTS.md").read_text(encoding="utf-8")):
+    for name, wanted, found in compared(help_of(program), (DOCS / "REPORTS.md").read_text(encoding="utf-8")):
         difference = list(unified_diff(wanted, found, "wanted", name, n=0, lineterm=""))
         tally.check(bool(wanted) and not difference, "\n".join(difference) or f"{name}: nothing to compare")
-    for fault in width_faults(program, [it for it in told if it != "help"]):
-        tally.check(False, fault)
+    run_section("help-files", program, tally)
     return tally.end()

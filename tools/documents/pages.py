@@ -36,8 +36,7 @@ from typing import NamedTuple, NoReturn
 
 from tools.common import ROOT, Tally, answer_of, program_parser
 from tools.crates import Crates
-from tools.edits.verdicts import number_of_open
-from tools.edits.wrong_body_edits import HEAD, MUST_FAIL, WRONG_BODIES, written_edits
+from tools.edits.verdicts import HEAD, MUST_FAIL, WRONG_BODIES, number_of_open, written_edits
 from tools.worked_cases import SUFFIX, case_called
 
 IMPL = re.compile(r"(?:impl|pub trait|trait)\b(?:<[^{]*?>)? (?:[^{]*? for )?(?:\w+::)*(\w+)")
@@ -134,7 +133,8 @@ def crates(words: str) -> str:
     for crate in proved_crates():
         calls = dict.fromkeys(f"{of}{name}" for it, of, name, _ in promised if it == crate)
         bare = sum(not it.has_contract() for it in functions_of(crate))
-        rows.append((f"`{crate}`", about(crate), code_names(calls) or "none", f"{bare} of {len(functions_of(crate))}"))
+        named = ", ".join(f"`{it}`" for it in calls) or "none"
+        rows.append((f"`{crate}`", about(crate), named, f"{bare} of {len(functions_of(crate))}"))
     return table("Crate | What it is | What carries its promises | Functions without a contract of their own", rows)
 
 
@@ -174,10 +174,6 @@ def about(crate: str) -> str:
 def begun(comment: str, end: str) -> str:
     """A comment up to this end, as a cell of a table."""
     return re.split(end, comment)[0].rstrip(".:").replace("|", "\\|")
-
-
-def code_names(names: Iterable[str]) -> str:
-    return ", ".join(f"`{it}`" for it in names)
 
 
 def table(head: str, rows: Iterable[Iterable[str]]) -> str:

@@ -4,41 +4,23 @@ The pictures of all examples, and of some more scripts, are compared with the re
 docs/pictures, and must be those that the program draws, byte for byte; --write writes them anew. These are the pictures that pages show,
 and some of other kinds. A file of scripts says which shapes their pictures must have (pictured-scripts.txt), and a table how many steps
 their columns are. Each picture must be well-formed XML of a few elements, and the report, the messages and the status beside it those
-without a picture. Where it or a SARIF log can't be written, no file may be another than before. Pictures of long runs must be no longer
-than 5 MiB.
+without a picture. Pictures of long runs must be no longer than 5 MiB. Where a picture or a SARIF log can't be written, no file may be
+another than before (sessions.txt).
 """
 
-import os
+import json
 import re
-import resource
 import tempfile
 import xml.etree.ElementTree as ET
+from collections.abc import Iterator
 from pathlib import Path
 from typing import Any
+from urllib.parse import unquote
 
-from tools.common import DOCS, READ_OR_WRITE_FAULT, ROOT, TOOLS, Answer, Trials, Word, examples, program_parser
-from tools.documents.ci import LEAK, SCHEMA
+from tools.common import DOCS, ROOT, TOOLS, Trials, Word, examples, program_parser
 from tools.documents.pages import pages
 from tools.documents.picture_reports import Picture, faults_of
-
-# what a picture or a log doesn't replace, by what the file holds
-NO_PICTURES = {"text": "a report\n", "nothing": "", "too little": "<svg", "another element": "<svgs>", "XML": '<?xml version="1.0"?><svg/>'}
-NO_LOGS = {"a text": "a report\n", "no byte": "", "another log": f'{{"$schema":"{SCHEMA}","version":"2.1.0","runs":[]}}\n'}
-SCRIPT_ITSELF, REPORT_ITSELF = "it is the script, which a picture does not replace", "the report or the messages go there"
-NO_DIRECTORY, NO_FILE = "no such directory", "it is not a regular file"
-# why no picture is put into files, by their names: some begin at the top of the repository, others in the folder
-UNWRITABLE = {
-    **{"none/heap.svg": NO_DIRECTORY, "README.md/heap.svg": "a part of its path is not a directory", ".": "it is a directory"},
-    **{"/dev/full": NO_FILE, "": NO_DIRECTORY, "-": "a picture is not written to standard output"},
-}
-UNWRITABLE_HERE = {
-    **dict.fromkeys(("script.oom", "another name", "a link"), SCRIPT_ITSELF),
-    **dict.fromkeys(NO_PICTURES, "it exists and is not an SVG, so it is left as it is"),
-    **{"pipe": NO_FILE, "": "it is a directory", "loop": "its symbolic links form a loop"},
-}
-
-# a picture of before, which is replaced
-OLD = "<svg>old</svg>\n"
+from tools.sessions import run_section
 
 KEPT = DOCS / "pictures"
 MOST_BYTES = 5 << 20
@@ -73,86 +55,7 @@ COLUMNS = (
 
 
 class Pictures(Trials):
-    """What the program draws, what it does with files in a folder, and how much of it was right."""
-
-    def __init__(self, program: Path, room: Path) -> None:
-        super().__init__(program, room)
-        self.script = room / "script.oom"
-        self.script.write_text(LEAK, encoding="utf-8")
-        self.plain = self.run("run", self.script)
-
-    def drawn(self, file: str | Path, option: str = "--picture", **how: Any) -> Answer:
-        return self.run("run", option, file, *([] if "stdin" in how else [self.script]), **how)
-
-    def refused(self, name: str | Path, why: str) -> Answer:
-        """What must be answered where a picture can't be put into a file: the report is whole, and a message says why."""
-        message = f"workbench: {name or chr(34) * 2}: {why}\n".encode()
-        return Answer(self.plain.output, self.plain.messages + message, READ_OR_WRITE_FAULT)
-
-    def check_left(self, file: str | Path, why: str, **how: Any) -> None:
-        """A picture that is not put into a file leaves all files as they are, and the report beside it is the same."""
-        held = {it: it.read_bytes() for it in self.room.iterdir() if it.is_file()}
-        answer = self.drawn(file, **how)
-        self.check(answer == self.refused(file, why), f"a picture in {file!r}: {answer}")
-        is_left = held == {it: it.read_bytes() for it in self.room.iterdir() if it.is_file()}
-        self.check(is_left, f"a picture in {file!r}: other files than before")
-
-    def check_kept(self) -> None:
-        """Neither the script nor a file that is no picture is replaced, by whatever name it is called, nor a picture by half of one."""
-        (self.room / "a link").symlink_to(self.script)
-        (self.room / "another name").hardlink_to(self.script)
-        (self.room / "loop").symlink_to("loop")
-        os.mkfifo(self.room / "pipe")
-        for name, held in {**NO_PICTURES, **NO_LOGS, "old": OLD}.items():
-            (self.room / name).write_text(held, encoding="utf-8")
-        for name, why in UNWRITABLE.items():
-            self.check_left(name, why)
-        for name, why in UNWRITABLE_HERE.items():
-            self.check_left(self.room / name, why)
-        for name in NO_LOGS:
-            self.check_left(self.room / name, "it exists and is not a log of the workbench, so it is left as it is", option="--sarif")
-        # Python ignores the signal that would end a program here, and so does what it runs
-        bound: dict[str, Any] = {"restore_signals": False, "preexec_fn": lambda: resource.setrlimit(resource.RLIMIT_FSIZE, (1000, 1000))}
-        for name in ("old", "never.svg"):
-            self.check_left(self.room / name, "it would be too large", **bound)
-
-    def check_streams(self) -> None:
-        """Neither the report, nor a script on standard input, nor the messages are replaced."""
-        report, old = self.room / "report.txt", self.room / "old"
-        with report.open("wb") as output:
-            told = self.drawn(report, stdout=output)._replace(output=report.read_bytes())
-        self.check(told == self.refused(report, REPORT_ITSELF), f"a picture in the report: {told}")
-        with self.script.open("rb") as given:
-            ran = self.drawn(self.script, stdin=given)
-        self.check(ran.status == READ_OR_WRITE_FAULT and SCRIPT_ITSELF.encode() in ran.messages, f"a picture in standard input: {ran}")
-        self.check(self.script.read_text(encoding="utf-8") == LEAK, "standard input was replaced")
-        for stream, written in (("stdout", self.plain.output), ("stderr", self.plain.messages)):
-            old.write_text(OLD, encoding="utf-8")
-            with old.open("ab") as output:
-                ran = self.drawn(old, **{stream: output})
-            is_kept = old.read_bytes().startswith(OLD.encode() + written)
-            self.check(ran.status == READ_OR_WRITE_FAULT and is_kept, f"a picture in {stream}: {ran}")
-
-    def check_replaced(self) -> None:
-        """A picture is replaced whole, with its permissions, and through links, which stay links."""
-        far, near, file, taken = (self.room / it for it in ("far/far.svg", "near.svg", "drawn.svg", "workbench-picture-0.tmp"))
-        far.parent.mkdir()
-        far.symlink_to("../near.svg")
-        near.symlink_to("drawn.svg")
-        taken.write_text("taken", encoding="utf-8")
-        drawn: set[bytes] = set()
-        for name, held in ((file, ""), (file, OLD), (far, OLD), (far, "")):
-            file.unlink(missing_ok=True)
-            if held:
-                file.write_text(held, encoding="utf-8")
-                file.chmod(0o640)
-            answer, what = self.drawn(name), f"a picture in {name} that held {held!r}"
-            self.check(answer == self.plain, f"{what}: {answer}")
-            drawn.add(file.read_bytes() if file.is_file() else b"")
-            self.check(far.is_symlink() and near.is_symlink(), f"{what}: a link was replaced")
-            self.check(not held or file.stat().st_mode & 0o777 == 0o640, f"{what}: other permissions")
-        self.check(len(drawn) == 1 and drawn.pop().endswith(b"</svg>\n"), "one picture isn't another")
-        self.check(set(self.room.glob("*.tmp")) == {taken}, f"files that are left: {sorted(self.room.glob('*.tmp'))}")
+    """What the program draws, and how much of it was right."""
 
     def draw(self, what: str, *words: Word, script: str = "") -> Picture | None:
         """The picture that goes with an answer; None if there is none. The answer must be the one without a picture."""
@@ -217,14 +120,11 @@ class Pictures(Trials):
                 self.check(found == int(number), f"{name}: {found} shapes are {begins!r}, not {number}")
 
     def check_others(self) -> None:
-        """The name of a file is a text of a user too; a script that is rejected has no picture; a column must be so many steps where the
-        run, or the longer of two, takes so many; and the pictures of long runs must not be too long."""
-        odd, none, rejected = self.room / "\"><script>alert('&')]]>.oom", self.room / "none.svg", "proc main\n"
+        """The name of a file is a text of a user too; a column must be so many steps where the run, or the longer of two, takes so many; and
+        the pictures of long runs must not be too long."""
+        odd = self.room / "\"><script>alert('&')]]>.oom"
         odd.write_text(LEAK, encoding="utf-8")
         self.draw("a name with markup", "run", odd)
-        answer = self.run("check", f"--picture={none}", script=rejected)
-        self.check(answer == self.run("check", script=rejected), "a rejected script: another answer beside the picture")
-        self.check(not none.exists(), "a rejected script: a picture")
         for command, last, steps in COLUMNS:
             # with two runs it leaks where its second request fails, and takes no more steps then
             leak = ["alloc a 16", "alloc b 16", "if some b", "free a", "end", "free b"] if command == "sweep" else []
@@ -246,6 +146,123 @@ def main(words: list[str]) -> int:
     with tempfile.TemporaryDirectory() as folder:
         pictures = Pictures(given.program, Path(folder))
         pictures.check_examples(given.write)
-        for check in (pictures.check_scripts, pictures.check_kept, pictures.check_streams, pictures.check_replaced, pictures.check_others):
-            check()
+        pictures.check_scripts()
+        pictures.check_others()
+    run_section("pictures", given.program, pictures)
     return pictures.end()
+
+
+COMMANDS = (["check"], ["run"], ["run", "--fail", "3"], ["lengths"], ["sweep", "--every"], ["check", "--sets", "--moving"])
+SCHEMA = "https://docs.oasis-open.org/sarif/sarif/v2.1.0/errata01/os/schemas/sarif-schema-2.1.0.json"
+LEVELS = {"leak": "error", "panic": "error", "cut": "warning", "left": "note"}
+# a finding on standard error: its line, and its words
+FINDING = re.compile(r"^\S.*?(?::(\d+))?: ((?:leak: |panic [A-Z]+ \d+: |`main` left here |the run was cut ).*)$", re.MULTILINE)
+
+LEAK = "proc main\nptr a\nalloc a 16\nend\n"
+CUT_SCRIPT = "proc main\nrepeat 100000\nend\nend\n"
+
+
+def place_faults(what: str, location: dict[str, Any], uri: str, lines: list[str]) -> Iterator[str]:
+    physical = location["physicalLocation"]
+    if unquote(physical["artifactLocation"]["uri"]) != uri or physical["artifactLocation"]["index"] != 0:
+        yield f"{what}: another file"
+    region = physical["region"]
+    if not 1 <= region["startLine"] <= len(lines):
+        yield f"{what}: no line {region['startLine']}"
+    elif "startColumn" in region and not 1 <= region["startColumn"] < region["endColumn"] <= len(lines[region["startLine"] - 1]) + 1:
+        yield f"{what}: no columns {region['startColumn']} to {region['endColumn']}"
+
+
+def result_faults(result: dict[str, Any], rules: list[dict[str, Any]], uri: str, lines: list[str]) -> Iterator[str]:
+    what, index = result["ruleId"], result["ruleIndex"]
+    if not 0 <= index < len(rules) or rules[index]["id"] != what:
+        yield f"{what}: another rule"
+    if result["level"] != LEVELS.get(what.partition("/")[0]) or not result["message"]["text"]:
+        yield f"{what}: another level, or no message"
+    related = result["relatedLocations"]
+    if [it["id"] for it in related] != list(range(len(related))):
+        yield f"{what}: related locations without their numbers"
+    flows = [it["location"] for flow in result.get("codeFlows", []) for thread in flow["threadFlows"] for it in thread["locations"]]
+    if "codeFlows" in result and not flows:
+        yield f"{what}: a code flow without a location"
+    failed, in_flows = ([it["message"]["text"] for it in its if " failed here" in it["message"]["text"]] for its in (related, flows))
+    if not set(failed) <= set(in_flows):
+        yield f"{what}: failed attempts that no code flow has"
+    if any(not it["message"]["text"] for it in [*related, *flows]):
+        yield f"{what}: a location without a message"
+    for location in (*result["locations"], *related, *flows):
+        yield from place_faults(what, location, uri, lines)
+
+
+def line_of(result: dict[str, Any]) -> int:
+    (location,) = result["locations"]
+    return int(location["physicalLocation"]["region"]["startLine"])
+
+
+def faults_of_log(text: str, name: str, lines: list[str], messages: str) -> Iterator[str]:
+    log = json.loads(text)
+    (run,) = log["runs"]
+    driver, results = run["tool"]["driver"], run["results"]
+    if (log["$schema"], log["version"], driver["name"]) != (SCHEMA, "2.1.0", "workbench"):
+        yield "another schema, version or tool"
+    if unquote(run["artifacts"][0]["location"]["uri"]) != name:
+        yield "another file"
+    if sorted(it["id"] for it in driver["rules"]) != sorted({it["ruleId"] for it in results}):
+        yield "rules that no result has, or that are there twice"
+    for result in results:
+        yield from result_faults(result, driver["rules"], name, lines)
+    found = [(line_of(it), it["message"]["text"].partition("\n")[0]) for it in results]
+    if found != (told := [(int(line or 0), words) for line, words in FINDING.findall(messages)]):
+        yield f"results {found}, and findings {told}"
+
+
+class Logs(Trials):
+    def check_log(self, *words: Word, name: str, script: str) -> None:
+        """A log must be right, and the answer beside it the one without. A script without a name is given on standard input."""
+        file, what = self.room / "log.sarif", f"{' '.join(map(str, words))} {name}"
+        file.unlink(missing_ok=True)
+        given: list[Word] = [name] if name else []
+        plain = self.run(*words, *given, script="" if name else script)
+        answer = self.run(*words, "--sarif", file, *given, script="" if name else script)
+        self.check(answer == plain, f"{what}: another answer beside the log")
+        try:
+            faults = list(faults_of_log(file.read_text(encoding="utf-8"), name or "<stdin>", script.splitlines(), plain.messages.decode()))
+        except (OSError, ValueError, LookupError) as error:
+            faults = [repr(error)]
+        self.check(not faults, "\n".join(f"{what}: {it}" for it in faults))
+
+    def check_examples(self) -> None:
+        """The logs of all examples, and of scripts on standard input and with an odd name."""
+        for file in examples():
+            for words in COMMANDS:
+                self.check_log(*words, name=str(file.relative_to(ROOT)), script=file.read_text(encoding="utf-8"))
+        odd = self.room / 'a "b" \\ #50% ü.oom'
+        odd.write_text(LEAK, encoding="utf-8")
+        for script in (LEAK, CUT_SCRIPT):
+            self.check_log("check", name="", script=script)
+        self.run("run", "--sarif", self.room / "odd.sarif", odd)
+        uri = json.loads((self.room / "odd.sarif").read_text(encoding="utf-8"))["runs"][0]["artifacts"][0]["location"]["uri"]
+        self.check(unquote(uri) == f"file://{odd}", f"an odd name: {uri}")
+
+    def check_replaced(self) -> None:
+        """A log of the program is replaced as a whole."""
+        file, texts = self.room / "replaced.sarif", []
+        for script in (CUT_SCRIPT, LEAK, CUT_SCRIPT):
+            self.run("run", "--sarif", file, script=script)
+            texts.append(file.read_text(encoding="utf-8"))
+        self.check(texts[0] == texts[2] != texts[1] and not list(self.room.glob("*.tmp")), "a log isn't replaced whole")
+
+
+def check_logs(words: list[str]) -> int:
+    """Has the built program write SARIF logs, and checks what they hold.
+
+    The logs of all examples, by several commands, must keep the rules of SARIF 2.1.0 that matter to a reader. They must have one result for
+    each finding on standard error, with its words and its line, and the answer must be the one without a log. A log replaces a log as a
+    whole; that it replaces nothing else, `pictures` looks.
+    """
+    given = program_parser(check_logs.__doc__).parse_args(words)
+    with tempfile.TemporaryDirectory() as folder:
+        logs = Logs(given.program, Path(folder))
+        logs.check_examples()
+        logs.check_replaced()
+    return logs.end()

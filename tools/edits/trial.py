@@ -6,6 +6,7 @@ import os
 import re
 import shutil
 import subprocess
+import tempfile
 import time
 from collections import Counter, defaultdict
 from collections.abc import Iterator
@@ -16,14 +17,9 @@ from typing import IO, NamedTuple
 
 from tools.common import Tally
 from tools.crates import Crates, take_as_built
-from tools.edits.verdicts import Verdicts
-from tools.edits.wrong_body_edits import Edit, edited_files
+from tools.edits.verdicts import Edit, Verdicts, edited_files
 
 LIBRARY = Path("out/rlib")
-
-# how long a look at a check waits, in seconds
-LOOK = 0.2
-
 STATUS = re.compile(r"fn (\S+): (proved|no proof|not proved)(?:: |; |$)(.*)")
 # what is said of a function that calls what isn't proved; of one of the second sort nothing else is said before that is proved
 WAITS = re.compile(
@@ -68,7 +64,7 @@ class Checks:
                     check.kill()
                     raise OutOfTime
                 with suppress(subprocess.TimeoutExpired):
-                    check.wait(LOOK)
+                    check.wait(0.2)
 
 
 class Said(NamedTuple):
@@ -120,13 +116,11 @@ def read_verdict(text: str) -> Verdict:
 
 
 def check(checks: Checks, room: Path, crate: str, functions: list[str], jobs: int) -> Verdict:
-    """Checks some functions of the crate in a room, and what they call; what the check prints is added to a file beside the
-    room."""
+    """Checks some functions of the crate in a room, and what they call."""
     only = [word for it in functions for word in ("--only", it)]
-    with room.with_name(f"{room.name}.log").open("a+", encoding="utf-8", errors="replace") as log:
-        start = log.seek(0, os.SEEK_END)
+    with tempfile.TemporaryFile("w+", errors="replace") as log:
         checks.run(["rt", "check", "--jobs", str(jobs), *only], room / "crates" / crate, log)
-        log.seek(start)
+        log.seek(0)
         return read_verdict(log.read())
 
 
@@ -135,8 +129,7 @@ def make_room(crates: Crates, crate: str, room: Path) -> None:
     room.mkdir()
     lower = crates.below(crate)
     (room / "crates.txt").write_text("".join(f"{crates.lines[it]}\n" for it in [*lower, crate]), encoding="utf-8")
-    if (crates.root / "HANDLES").is_file():
-        shutil.copy2(crates.root / "HANDLES", room)
+    shutil.copy2(crates.root / "HANDLES", room)
     for name in [*lower, crate]:
         crates.copy(name, room / "crates" / name)
     for name in lower:
@@ -211,7 +204,7 @@ class Trial:
                 verdict = self.check(room, crate, together, jobs)
                 strays = {name for name, it in verdict.functions.items() if is_disproof(it.text)} - {it.function for it in together}
                 said |= {f"{crate}: {it}": "is disproved, and has no wrong body" for it in sorted(strays)}
-                judged = [(it, what_is_said(it, it.function, verdict)) for it in together]
+                judged = [(it, what_is_said(it, verdict)) for it in together]
                 said |= {it.label: text for it, text in judged if text}
                 waiting = [it for it, text in judged if not text]
                 # those that only waited for others are tried again without these, as long as some are judged so
@@ -220,7 +213,7 @@ class Trial:
                     break
                 together = waiting
             for it in alone:
-                said[it.label] = what_is_said_of_all(it, self.check(room, crate, [it], jobs))
+                said[it.label] = what_is_said(it, self.check(room, crate, [it], jobs)) or "disproved only through what it calls"
         with self.lock:
             self.say(said)
             self.settle(crate)
@@ -232,7 +225,7 @@ class Trial:
         self.crates.copy(crate, copy)
         for file, text in (edited_files(edits, self.crates.folder(crate)) if edits[0].body else edits[0].files).items():
             (copy / file).write_text(text, encoding="utf-8")
-        return check(self.checks, room, crate, sorted({name for it in edits for name in (it.function, *it.others)}), jobs)
+        return check(self.checks, room, crate, sorted(it.function for it in edits), jobs)
 
     def say(self, said: dict[str, str]) -> None:
         """Prints what is said of edits, and counts it."""
@@ -255,23 +248,12 @@ class Trial:
         self.unsettled[crate] = {it: checksum for it, checksum in unsettled.items() if it not in settled}
 
 
-def what_is_said_of_all(edit: Edit, verdict: Verdict) -> str:
-    """What a check says of an edit that has it to itself: that it was disproved where each of its functions was, for its own sake."""
-    names = (edit.function, *edit.others)
-    said = {it: what_is_said(edit, it, verdict) or "disproved only through what it calls" for it in names}
-    for name, text in said.items():
-        if not is_disproof(text):
-            return f"{name}: {text}" if edit.others else text
-    # the weakest of the disproofs
-    return max(said.values(), key=len)
-
-
-def what_is_said(edit: Edit, function: str, verdict: Verdict) -> str:
-    """What a check says of a function with an edit; nothing where it only waits for what it calls."""
+def what_is_said(edit: Edit, verdict: Verdict) -> str:
+    """What a check says of an edit's function; nothing where it only waits for what it calls."""
     if verdict.unread:
         return f"BAD EDIT: the edited text can't be checked: {verdict.unread}"
-    if function not in verdict.functions:
-        return f"BAD EDIT: a check of the crate names no function {function}"
-    said = verdict.functions[function]
+    if edit.function not in verdict.functions:
+        return f"BAD EDIT: a check of the crate names no function {edit.function}"
+    said = verdict.functions[edit.function]
     standing = edit.clauses - said.clauses
     return f"PROVED in its clauses {', '.join(sorted(standing))}" if standing and said.text != "PROVED" else said.text

@@ -2,8 +2,8 @@
 
 The files `crates/NAME/wrong-bodies/*.edits` have a line `=== src/SOURCE.rt` above the wrong bodies of each source. Each of these has a line
 `[NAME]`, a name of its own in the crate; a line `function: PATH`, the function that must be disproved, as a check names it, or
-`function: PATH, PATH` where each of several must, or `function: every clause of PATH`; and pairs of lines `old: TEXT`, `new: TEXT`, where
-the old text stands once in the source. Below a line `file: src/..` the texts are of that file.
+`function: every clause of PATH`; and pairs of lines `old: TEXT`, `new: TEXT`, where the old text stands once in the source. Below a line
+`file: src/..` the texts are of that file.
 
 A function's proof reads the contracts of what it calls, and not the bodies; so one check of a copy of the crate judges one wrong body each
 of many functions. An edit that changes more than a function's body has a check of its own. Where a source's wrong bodies are all disproved,
@@ -17,7 +17,6 @@ count. What stays open is listed, and `--open` lists it too. Libraries below tha
 import argparse
 import math
 import random
-import shutil
 import signal
 import subprocess
 import sys
@@ -31,12 +30,10 @@ from tools.build import Build, Unproved
 from tools.common import ROOT, Tally, parser_of
 from tools.crates import Crates, Step, processors, run_steps, version
 from tools.edits.trial import LIBRARY, Batch, Checks, Trial, batches
-from tools.edits.verdicts import OpenSource, Verdicts, list_of, logic_in
-from tools.edits.wrong_body_edits import MUST_FAIL, WRONG_BODIES, Edit, read_edits, written_edits
+from tools.edits.verdicts import MUST_FAIL, WRONG_BODIES, Edit, OpenSource, Verdicts, list_of, logic_in, read_edits, written_edits
 
 # of how many crates some are tried whose line stands, and how many edits of each at most: the largest crates take an hour as a whole
 PICKED, PICKED_EDITS = 2, 10
-
 # how many edits are tried together where the time is bounded: a check of a large crate loads for a minute, and then takes one for each
 AT_ONCE = 4
 
@@ -96,10 +93,8 @@ def choose(verdicts: Verdicts, crates: list[str], opened: list[OpenSource], kind
 
 def words_parser() -> argparse.ArgumentParser:
     parser = parser_of(__doc__)
-    parser.add_argument("--jobs", type=int, default=processors(), metavar="N", help="how many processors to use")
     parser.add_argument("--must-fail", action="store_true", help="try the edits of must-fail/ as well")
     parser.add_argument("--after-ci", action="store_true", help="`rt ci` has just built the libraries")
-    parser.add_argument("--logs", type=Path, metavar="FOLDER", help="where to copy what the checks print")
     parser.add_argument("--all", action="store_true", help="try all crates, and not only those whose line doesn't stand")
     parser.add_argument("--only", action="append", default=[], metavar="NAME", help="try the edits of that name alone, of one crate")
     parser.add_argument("--minutes", type=float, metavar="N", help="try what is open for so long at most")
@@ -126,7 +121,7 @@ def run_trial(given: argparse.Namespace, choice: Choice, opened: list[OpenSource
     verdicts, crates = choice.verdicts, choice.verdicts.crates
     try:
         if not given.after_ci:
-            Build(crates, list(choice.edits)).run(given.jobs)
+            Build(crates, list(choice.edits)).run(processors())
         for crate in choice.edits:
             if missing := next((it for it in crates.below(crate) if not (crates.folder(it) / LIBRARY).is_dir()), None):
                 raise Unproved(f"{missing}, below {crate}, is not built")
@@ -143,7 +138,7 @@ def run_trial(given: argparse.Namespace, choice: Choice, opened: list[OpenSource
         steps = [Step(it.crate, partial(trial.judge, it), size[it.crate] * len(it.edits)) for it in choice.whole_batches()]
     else:
         steps = [Step(it.crate, partial(trial.judge, it), -at, most=1) for at, it in enumerate(choice.small_batches(opened))]
-    run_until_stopped(steps, given.jobs, checks)
+    run_until_stopped(steps, processors(), checks)
     if given.minutes is not None:
         still = [it for it in opened if it.source in trial.unsettled[it.crate]]
         print(list_of(still))
@@ -191,8 +186,4 @@ def main(words: list[str]) -> int:
         opened = verdicts.open_in(names)
         choice = choose(verdicts, names, opened, kinds)
     with tempfile.TemporaryDirectory(prefix="wrong-bodies-", ignore_cleanup_errors=True) as folder:
-        tally = run_trial(given, choice, opened, Path(folder))
-        for log in Path(folder).glob("*.log") if given.logs else []:
-            given.logs.mkdir(parents=True, exist_ok=True)
-            shutil.copy2(log, given.logs)
-    return tally.end(may_be_none=True)
+        return run_trial(given, choice, opened, Path(folder)).end(may_be_none=True)

@@ -1,48 +1,154 @@
-"""What the tool tries of the wrong bodies of a small repository, in which order and within which time, and what comes of it. The toolchain
-itself tries some, and those tests fail without it; for others one stands in that only answers, or hangs.
-And how they are written: what is read of a crate's files of edits, and which edits are none."""
+"""Wrong bodies: how they are written, and which edits are none; which verdicts stand after a change, and which are open; and what the tool
+tries of a small repository, in which order and within which time. The toolchain itself tries some, and those tests fail without it; for
+others one stands in that only answers, or hangs."""
 
 import contextlib
 import io
 import os
 import shutil
-import signal
 import subprocess
-import time
+from collections.abc import Iterator
 from pathlib import Path
 from unittest.mock import patch
 
 from tools.common import TOOLS, Tally
 from tools.crates import version
 from tools.door import said_by
+from tools.edits import verdicts
 from tools.edits.trial import Checks, Said, Trial, Verdict, is_disproof, read_verdict
-from tools.edits.verdicts import FILE, OpenSource, Verdicts, logic_in
+from tools.edits.verdicts import FILE, MUST_FAIL, WRONG_BODIES, OpenSource, Verdicts, WrittenEdit, logic_in, read_edits, written_edits
 from tools.edits.wrong_bodies import AT_ONCE, PICKED_EDITS, Choice
-from tools.edits.wrong_body_edits import MUST_FAIL, WRONG_BODIES, WrittenEdit, read_edits, written_edits
-from tools.tests.test_verdicts import LOGIC, InRepository, files_in
+from tools.tests import InRoom
 
-# means the same as the function, so that it is proved
-RIGHT_EDIT = "\n[right]\nfunction: high::after_next\nold: next(next(n))\nnew: n + 2\n"
-OTHER_DAYS, OTHER_HOURS = "old: u32 = 7;\nnew: u32 = 8;\n", "old: u32 = 24;\nnew: u32 = 25;\n"
-# edits of the lower crate, and what is said of each that is tried with the one before it
-OF_LOW = {
-    "\n[twice]\nfunction: low::next\nold:     n + 1\nnew:     n + n\n": "low/twice: disproved",
-    f"\n[days]\nfunction: low::week\n{OTHER_DAYS}": "low/days: disproved",
-    f"\n[both]\nfunction: low::week, low::as_many\n{OTHER_DAYS}": "low/both: low::as_many: PROVED",
-    f"\n[one-clause]\nfunction: every clause of low::numbers_are\n{OTHER_DAYS}": "low/one-clause: PROVED in its clauses hours",
-    f"\n[all]\nfunction: every clause of low::numbers_are\n{OTHER_DAYS}{OTHER_HOURS}": "low/all: disproved",
-}
-LOW_EDITS, HIGH_EDITS = "crates/low/wrong-bodies/lib.edits", "crates/high/wrong-bodies/lib.edits"
+KIT = "rattle-kit-0 logic 0"
+LOGIC = "logic 0"
 
-PRINTED = """\
-note: src/low.rt:7:5: it is not proved that what the function ensures holds when it returns (`returns-clause-next`)
-fn low::next: no proof: expected answers in ./proofs/next/Answers.antt; `search` did not prove `returns-clause-next`
-fn low::after_next: no proof: it calls `low::next`, which is not proved
-fn low::put_next: no proof: the borrow checker's part in its proof is not made yet: a call of `low::next`, which has no proof: \
-help: prove it first, and the check then prints what is left of this function
-fn low::zero: proved
-only=4 proved=1
-"""
+
+def section(name: str) -> str:
+    """A part of the file of repositories."""
+    return (TOOLS / "tests/repositories.txt").read_text(encoding="utf-8").partition(f"\n==== {name}\n")[2].partition("\n==== ")[0]
+
+
+def files_in(repository: str) -> dict[str, str]:
+    """The files of a repository, by their names."""
+    return {name: f"{text.rstrip()}\n" for name, text in (part.split("\n", 1) for part in section(repository).split("\n== ")[1:])}
+
+
+def changes() -> Iterator[tuple[str, str, str, str]]:
+    """Changes of the tiny repository: the file, the old text, the new text, and the sources that are open then."""
+    name = ""
+    for line in section("changes").partition("\n\n")[2].splitlines():
+        if line.startswith("    "):
+            old, new, opened = line[4:].replace("\\n", "\n").split(" | ")
+            yield name, old, new, {"all": ALL, "nothing": ""}.get(opened, opened)
+        elif not line.startswith("#"):
+            name = line
+
+
+FILES = files_in("tiny")
+ALL = "high chunk lib twice"
+
+HIGH_EDITS, LOW_EDITS = "crates/high/wrong-bodies/lib.edits", "crates/low/wrong-bodies/lib.edits"
+EDIT = "[too-little]\nfunction: low::next\nold:  - n + 1\nnew:  - n\n"
+
+source, *edits = FILES[HIGH_EDITS].replace("=== src/lib.rt", "=== src/lib.rt\n").split("\n\n")
+MOVED = "crates/high/wrong-bodies/further/numbers.edits"
+# the texts of files, or None for a file that goes, with the sources that are open then
+FURTHER: list[tuple[dict[str, str | None], str]] = [
+    ({"crates/lowest/specs/More.antt": "pub two : ℕ\ntwo = 2\n"}, ALL),
+    ({"crates/high/src/more_laws.rt": "pub fn two_is()\n    ensures { 2 ≡ 2 }\n{}\n"}, "high"),
+    # edits in another order, and in another file; of another source they aren't the same edits
+    ({HIGH_EDITS: "\n\n\n".join([source, *reversed(edits)])}, ""),
+    ({HIGH_EDITS: None, MOVED: FILES[HIGH_EDITS]}, ""),
+    ({HIGH_EDITS: None, MOVED: FILES[HIGH_EDITS].replace("lib.rt", "numbers.rt")}, "high"),
+    # a file of edits less, and one without any
+    ({LOW_EDITS: None}, ""),
+    ({LOW_EDITS: ""}, "none"),
+]
+
+
+class InRepository(InRoom):
+    files = FILES
+
+    def setUp(self) -> None:
+        super().setUp()
+        self.enterContext(patch.dict(os.environ, RT_JOBS="1"))
+        for name, text in self.files.items():
+            self.put(name, text)
+
+    def write_lines(self, logic: str = LOGIC, are_valid: bool = True) -> None:
+        verdicts = Verdicts(self.room, logic)
+        for crate in ("low", "high"):
+            verdicts.write(crate, {it: verdicts.checksum(crate, it) if are_valid else "0" * 64 for it in verdicts.sources(crate)})
+
+    def said_here(self, *words: str) -> tuple[int, list[str]]:
+        """How the tool ends for this repository in this process, and what it says."""
+        with patch("tools.edits.wrong_bodies.ROOT", self.room), patch("tools.edits.wrong_bodies.version", return_value=LOGIC):
+            said = said_by("wrong-bodies", *words)
+        return said.status, said.output.splitlines()
+
+
+class WhatStands(InRepository):
+    def setUp(self) -> None:
+        super().setUp()
+        self.write_lines()
+
+    def opened(self, logic: str = LOGIC) -> str:
+        """The sources that are open, by the crate or by its source."""
+        verdicts = Verdicts(self.room, logic)
+        found = [(crate, it) for crate in ("high", "low") for it in verdicts.open_sources(crate)]
+        return " ".join(crate if crate == "high" else source or "none" for crate, source in found)
+
+    def test_changes(self) -> None:
+        self.assertEqual((self.opened(), self.opened("logic 1")), ("", ALL))
+        self.assertEqual([(name, old) for name, old, _, _ in changes() if FILES[name].count(old) != 1], [])
+        rows: list[tuple[dict[str, str | None], str]] = [({name: FILES[name].replace(old, new)}, its) for name, old, new, its in changes()]
+        for files, opened in rows + FURTHER:
+            for name, text in files.items():
+                (self.room / name).unlink() if text is None else self.put(name, text)
+            self.assertEqual(self.opened(), opened, files)
+            for name in files:
+                self.put(name, FILES[name]) if name in FILES else (self.room / name).unlink()
+        # a line in another form
+        lines = (self.room / FILE).read_text(encoding="utf-8")
+        self.put(FILE, lines.replace("high/lib 2 ", "high/lib two "))
+        self.assertEqual(self.opened(), "high")
+        # an edit that is none, whatever its line says
+        edits = "crates/low/wrong-bodies/twice.edits"
+        self.put(edits, f"{FILES[edits]}\n{EDIT.replace('too-little', 'gone')}")
+        self.write_lines()
+        self.assertEqual(self.opened(), "twice")
+
+    def write_days(self, days: dict[str, str]) -> None:
+        """Gives sources lines of these days, which don't stand; and those without a day none."""
+        lines = (self.room / FILE).read_text(encoding="utf-8").splitlines()
+        kept = [it for it in lines if it.split()[0] not in days]
+        self.put(FILE, "\n".join([*kept, *(f"{name} 1 {day} {'0' * 64}" for name, day in days.items() if day)]))
+
+    def test_the_oldest_first(self) -> None:
+        self.assertEqual(self.said_here("--open"), (0, ["open: no wrong body"]))
+        self.write_days({"high/lib": "2026-11-01", "low/lib": "2026-11-02", "low/chunk": ""})
+        lines = ["open: 4 wrong bodies of 3 sources", "  low/chunk: 1, never disproved"]
+        lines += ["  high/lib: 2, last disproved on 2026-11-01", "  low/lib: 1, last disproved on 2026-11-02"]
+        self.assertEqual(self.said_here("--open"), (0, lines))
+        self.write_days({"high/lib": "2026-11-02", "low/twice": "2026-11-02", "low/chunk": "2026-11-02"})
+        names = [f"{it.crate}/{it.source}" for it in Verdicts(self.room, LOGIC).open_in(["low", "high"])]
+        self.assertEqual(names, ["high/lib", "low/chunk", "low/lib", "low/twice"])
+
+    def test_the_number_of_the_readme_is_by_the_toolchain_that_it_names(self) -> None:
+        self.write_days({"high/lib": "", "low/lib": ""})
+        other = KIT.replace("logic 0", "logic 1")
+        for said, count in {f"Proved with `{KIT}`.": 3, f"The program was proved with `{KIT}`": 3, f"Proved with `{other}`.": 5}.items():
+            self.put("README.md", f"Its logic is proved. {said}")
+            with patch("tools.edits.verdicts.ROOT", self.room):
+                self.assertEqual(verdicts.number_of_open(), count)
+        self.put("README.md", "Its logic is proved.")
+        with patch("tools.edits.verdicts.ROOT", self.room):
+            self.assertRaises(ValueError, verdicts.number_of_open)
+
+
+# what is said of further edits, and their texts; the first is of the higher crate
+RIGHT, *OF_LOW = files_in("further edits").items()
 
 
 class SmallRepository(InRepository):
@@ -57,10 +163,10 @@ class SmallRepository(InRepository):
     def add(self, name: str, text: str) -> None:
         self.put(name, (self.room / name).read_text(encoding="utf-8") + text)
 
-    def try_bodies(self, *words: str, env: dict[str, str] | None = None) -> tuple[list[str], int]:
-        """What the tool prints, or else the last line of what is wrong with these words, and its status."""
-        ran = subprocess.run([self.room / "tools/dev", "wrong-bodies", "--jobs", "1", *words], capture_output=True, text=True, env=env)
-        return ran.stdout.splitlines() or ran.stderr.splitlines()[-1:], ran.returncode
+    def try_bodies(self, *words: str) -> tuple[list[str], int]:
+        """What the tool prints, and its status."""
+        ran = subprocess.run([self.room / "tools/dev", "wrong-bodies", *words], capture_output=True, text=True)
+        return ran.stdout.splitlines(), ran.returncode
 
     def standing(self, logic: str = LOGIC) -> list[str]:
         """The sources whose lines stand."""
@@ -81,43 +187,27 @@ class SmallRepository(InRepository):
 
 
 class ByTheToolchain(SmallRepository):
-    def test_words_that_ask_for_no_edit(self) -> None:
-        for words, said in {
-            ("low", "--only", "too-much"): "low has no edit too-much",
-            ("--only", "too-little"): "--only goes with the name of one crate",
-            ("none",): "crates.txt lists no crate none",
-            **dict.fromkeys(
-                (("--open", "low"), ("--open", "--all"), ("--minutes", "1", "low"), ("--minutes", "1", "--must-fail")),
-                "--minutes and --open are about all that is open, and go with no crate, --all or --must-fail",
-            ),
-        }.items():
-            self.assertEqual(self.try_bodies(*words), ([f"dev wrong-bodies: error: {said}"], 2))
-        self.assertEqual(self.try_bodies("--after-ci", "high"), (["not tried: low, below high, is not built", "0 passed, 1 failed"], 1))
-
-    def test_lines_are_written_and_tried(self) -> None:
+    def test_what_is_said_of_each_edit(self) -> None:
         lines, status = self.try_bodies()
         self.assertEqual((sorted(lines), status), (["2 passed, 0 failed", "high/too-little: disproved", "low/too-little: disproved"], 0))
         # an edit that is proved, with a line that says it was disproved
-        self.add(HIGH_EDITS, RIGHT_EDIT)
+        self.add(HIGH_EDITS, f"\n{RIGHT[1]}")
         logic = logic_in(version())
         self.assertEqual(self.standing(logic), ["low/lib"])
         self.write_lines(logic)
-        self.assertEqual(self.standing(logic), ["low/lib", "high/lib"])
         lines, status = self.try_bodies()
-        self.assertIn("high/right: PROVED", lines)
-        self.assertEqual((lines[-1], status), ("2 passed, 1 failed", 1))
-
-    def test_each_function_and_each_clause_must_be_disproved(self) -> None:
-        self.add(LOW_EDITS, "".join(OF_LOW))
+        self.assertEqual((RIGHT[0] in lines, lines[-1], status), (True, "2 passed, 1 failed", 1))
+        # each clause must be disproved, or no line is written
+        (self.room / FILE).unlink()
+        self.add(LOW_EDITS, "".join(f"\n{edit}" for _, edit in OF_LOW))
         self.put("crates/low/wrong-bodies/further.edits", self.files[LOW_EDITS].replace("too-little", "all"))
         twice = "low/all: BAD EDIT: another edit of the crate has its name"
         lines, status = self.try_bodies("low")
-        self.assertEqual(sorted(lines[:-1]), sorted(["low/too-little: disproved", twice, *list(OF_LOW.values())[:-1]]))
-        self.assertEqual((lines[-1], status, (self.room / FILE).exists()), ("3 passed, 3 failed", 1, False))
+        self.assertEqual(sorted(lines[:-1]), sorted(["low/too-little: disproved", twice, *(it for it, _ in OF_LOW[:-1])]))
+        self.assertEqual((lines[-1], status, (self.room / FILE).exists()), ("3 passed, 2 failed", 1, False))
         (self.room / "crates/low/wrong-bodies/further.edits").unlink()
-        lines, status = self.try_bodies("low", "--only", "all", "--logs", str(self.room / "logs"))
+        lines, status = self.try_bodies("low", "--only", "all")
         self.assertEqual((lines, status, (self.room / FILE).exists()), (["low/all: disproved", "1 passed, 0 failed"], 0, False))
-        self.assertIn("it is not proved that", (self.room / "logs/low.log").read_text(encoding="utf-8"))
 
 
 class WhatIsChosen(SmallRepository):
@@ -138,9 +228,9 @@ class WhatIsChosen(SmallRepository):
         self.assertEqual(tried("a commit", {}, "high"), ["high/c"])
 
     def test_a_few_of_one_source_and_by_turns_of_what_is_picked(self) -> None:
-        choice = self.choice({"low": ["first"], "high": ["second"]}, ["low"])
-        opened = [OpenSource("", "low", "first", 0), OpenSource("", "high", "second", 0)]
-        found = [[it.label.partition("/")[2] for it in batch.edits] for batch in choice.small_batches(opened)]
+        choice, opened = self.choice({"low": ["first"], "high": ["second"]}, ["low"]), [("low", "first"), ("high", "second")]
+        small = choice.small_batches([OpenSource("", *it, 0) for it in opened])
+        found = [[it.label.partition("/")[2] for it in batch.edits] for batch in small]
         self.assertEqual([(its[0][0], len(its)) for its in found], [
             *(("a", AT_ONCE), ("b", AT_ONCE), ("a", AT_ONCE), ("b", AT_ONCE)),
             *(("a", 1), ("b", PICKED_EDITS - 2 * AT_ONCE), ("c", 1)),
@@ -154,12 +244,9 @@ class WithinATime(SmallRepository):
     def setUp(self) -> None:
         super().setUp()
         (self.room / "crates/low/out/rlib").mkdir(parents=True)
-        self.tried, self.hanging = self.room / "tried", self.room / "hanging"
+        self.hanging = self.room / "hanging"
         path = f"{self.room / 'kit'}:{os.environ['PATH']}"
-        self.environment = {**os.environ, "PATH": path, "TRIED": str(self.tried), "HANGING": str(self.hanging)}
-
-    def try_for(self, seconds: float) -> tuple[list[str], int]:
-        return self.try_bodies("--after-ci", "--minutes", str(seconds / 60), env=self.environment)
+        self.environment = {**os.environ, "PATH": path, "TRIED": str(self.room / "tried"), "HANGING": str(self.hanging)}
 
     def hung(self) -> list[int]:
         return [int(it) for it in self.hanging.read_text(encoding="utf-8").split()] if self.hanging.exists() else []
@@ -170,50 +257,14 @@ class WithinATime(SmallRepository):
         self.write_source("low", "first", "one", "two")
         day = Verdicts(self.room, LOGIC).read()["low/last"].day
         # the time is over once a check hangs
-        with (
-            patch("tools.edits.wrong_bodies.ROOT", self.room),
-            patch("tools.edits.wrong_bodies.version", return_value=LOGIC),
-            patch("tools.edits.trial.take_as_built"),
-            patch.dict(os.environ, self.environment),
-            patch.object(Checks, "are_over", lambda _: bool(self.hung())),
-        ):
-            said = said_by("wrong-bodies", "--jobs", "1", "--after-ci", "--minutes", "1")
+        over = patch.object(Checks, "are_over", lambda _: bool(self.hung()))
+        with over, patch("tools.edits.trial.take_as_built"), patch.dict(os.environ, self.environment):
+            status, lines = self.said_here("--after-ci", "--minutes", "1")
         kept = ["low/one: disproved", "low/two: disproved", "open: 1 wrong body of 1 source", f"  low/last: 1, last disproved on {day}"]
-        lines = said.output.splitlines()
-        self.assertEqual((lines[:-2], lines[-1], said.status), (kept, "2 passed, 0 failed", 0))
+        self.assertEqual((lines[:-2], lines[-1], status), (kept, "2 passed, 0 failed", 0))
         self.assertIn("./tools/dev pages --write", lines[-2])
         self.assertEqual(self.standing(), ["low/first"])
         self.assertEqual([Path(f"/proc/{it}").exists() for it in self.hung()], [False])
-
-    def test_a_body_that_is_proved_fails(self) -> None:
-        self.write_source("low", "first", "one", "right")
-        self.write_source("low", "second", "three")
-        lines, status = self.try_for(600)
-        said = ["low/one: disproved", "low/right: PROVED", "low/three: disproved", "open: 2 wrong bodies of 1 source"]
-        self.assertEqual((lines[:4], lines[-1], status), (said, "2 passed, 1 failed", 1))
-        self.assertEqual(self.standing(), ["low/second"])
-
-    def test_no_time_at_all(self) -> None:
-        self.write_source("low", "first", "one")
-        still = ["open: 1 wrong body of 1 source", "  low/first: 1, never disproved"]
-        self.assertEqual(self.try_for(0), ([*still, "0 passed, 0 failed"], 0))
-        self.assertFalse(self.tried.exists())
-        # an edit that is none fails all the same
-        self.add("crates/low/src/first.rt", "number(1)\n")
-        lines, status = self.try_for(0)
-        self.assertEqual((lines[0][:17], lines[1:], status), ("low/one: BAD EDIT", [*still, "0 passed, 1 failed"], 1))
-
-    def test_the_parts_of_a_source_make_one_line(self) -> None:
-        self.write_source("high", "second", "b")
-        self.write_lines(LOGIC, are_valid=False)
-        self.write_source("low", "first", *(f"a{it}" for it in range(2 * AT_ONCE)))
-        lines, status = self.try_for(600)
-        self.assertEqual((lines[-3], lines[-1], status), ("open: no wrong body", f"{2 * AT_ONCE + 1} passed, 0 failed", 0))
-        self.assertEqual(self.standing(), ["low/first", "high/second"])
-        tried = [it.split() for it in self.tried.read_text(encoding="utf-8").splitlines()]
-        self.assertEqual([(len(it), it[0].rpartition("::")[0]) for it in tried], [
-            (AT_ONCE, "low::first"), (AT_ONCE, "low::first"), (1, "high::second")
-        ])
 
     def test_a_source_that_changes_meanwhile_has_no_line(self) -> None:
         for change, standing in (("\npub const TEN: u32 = 10;\n", []), ("", ["low/first"])):
@@ -231,33 +282,7 @@ class WithinATime(SmallRepository):
                     trial.judge(choice.whole_batches()[0], 1)
             self.assertEqual((trial.tally, self.standing(), (self.room / FILE).exists()), (Tally(1, 0), standing, standing != []))
 
-    def test_a_signal_ends_what_runs(self) -> None:
-        self.write_source("low", "first", "slow")
-        words = [self.room / "tools/dev", "wrong-bodies", "--jobs", "1", "--after-ci", "--minutes", "10"]
-        with subprocess.Popen(words, env=self.environment, stdout=subprocess.PIPE, stderr=subprocess.PIPE) as tool:
-            while not self.hung():
-                time.sleep(0.05)
-            tool.send_signal(signal.SIGTERM)
-            tool.communicate()
-        self.assertEqual(tool.returncode, 128 + signal.SIGTERM)
-        self.assertEqual([Path(f"/proc/{it}").exists() for it in self.hung()], [False])
 
-
-TWO = """\
-=== src/deep/wide.rt
-[longer]
-function: low::wide::length
-old:     7
-new:     8
-
-[both-files]
-function: low::wide::length, low::narrow::length
-old:     7
-new:  [longer]
-file: src/narrow.rt
-old: 5
-new:
-"""
 NARROW = "=== src/narrow.rt\n"
 HEAD = "[even]\nfunction: low::narrow::length\n"
 EVEN = f"{HEAD}old: 5\nnew: 6\n"
@@ -290,41 +315,32 @@ BAD = (
 
 
 class CrateOfEdits(InRepository):
-    files = {
-        "low/src/deep/wide.rt": "pub fn length() -> u32\n{\n    7\n}\n",
-        "low/src/narrow.rt": "pub fn length() -> u32\n{\n    5\n}\n",
-        "low/wrong-bodies/wide.edits": TWO,
-    }
+    files = files_in("edits")
 
     def setUp(self) -> None:
         super().setUp()
         self.crate = self.room / "low"
 
     def test_disproved_is_what_has_an_open_goal(self) -> None:
-        said = {name: it.text for name, it in read_verdict(PRINTED).functions.items()}
+        said = {name: it.text for name, it in read_verdict(self.files["printed"]).functions.items()}
         self.assertEqual(said, {"low::next": "disproved", "low::after_next": "", "low::put_next": "", "low::zero": "PROVED"})
         self.assertEqual([is_disproof(it) for it in ("disproved", "disproved, by a", "disproved only", "")], [True, True, False, False])
 
-    def test_many_of_a_source_by_their_names(self) -> None:
+    def test_what_is_read_and_what_comes_of_the_sources(self) -> None:
         changes = (("src/deep/wide.rt", "    7", " [longer]"), ("src/narrow.rt", "5", ""))
-        both = WrittenEdit("both-files", "low::wide::length, low::narrow::length", changes)
+        both = WrittenEdit("both-files", "low::wide::length", changes)
         longer = WrittenEdit("longer", "low::wide::length", (("src/deep/wide.rt", "    7", "    8"),))
         self.assertEqual(written_edits(self.crate, [WRONG_BODIES]), [both, longer])
-
-    def test_what_they_make_of_the_sources(self) -> None:
         self.put("low/must-fail/shorter.edit", MUST)
         good, bad = read_edits(self.crate, [WRONG_BODIES, MUST_FAIL])
-        self.assertEqual(bad, {})
-        self.assertEqual([(it.label, sorted(it.files)) for it in good], [
-            ("low/both-files", ["src/deep/wide.rt", "src/narrow.rt"]),
-            ("low/longer", ["src/deep/wide.rt"]), ("low/shorter", ["src/narrow.rt"]),
-        ])
-        self.assertIn("    8\n", good[1].files["src/deep/wide.rt"])
+        wide, narrow = "src/deep/wide.rt", "src/narrow.rt"
+        files = {"low/both-files": [wide, narrow], "low/longer": [wide], "low/shorter": [narrow]}
+        self.assertEqual(({it.label: sorted(it.files) for it in good}, bad), (files, {}))
+        self.assertIn("    8\n", good[1].files[wide])
 
     def test_edits_that_say_nothing_of_a_function(self) -> None:
         for name, text, edit, why in BAD:
-            with self.subTest(text, name=name):
-                self.put(f"low/wrong-bodies/{name}", text)
-                bad = read_edits(self.crate, [WRONG_BODIES, MUST_FAIL])[1]
-                self.assertEqual({label: said[: len(why)] for label, said in bad.items()}, {f"low/{edit}": why})
-                (self.crate / "wrong-bodies" / name).unlink()
+            self.put(f"low/wrong-bodies/{name}", text)
+            bad = read_edits(self.crate, [WRONG_BODIES, MUST_FAIL])[1]
+            self.assertEqual({label: said[: len(why)] for label, said in bad.items()}, {f"low/{edit}": why}, (name, text))
+            (self.crate / "wrong-bodies" / name).unlink()
