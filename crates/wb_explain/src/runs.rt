@@ -5,6 +5,7 @@
 
 mod attempts;
 mod blame;
+mod callee_pushes;
 mod caught;
 mod copies;
 mod counts;
@@ -38,16 +39,19 @@ mod lent;
 mod let_go;
 mod losses;
 mod mends;
+mod never_set;
 mod new_place;
 mod number_lists;
 mod numbers;
 mod old_value;
 mod operations;
+mod out_of_scope;
 mod overwritten;
 mod owners;
 mod panics;
 mod passed;
 mod passed_over;
+mod passed_release;
 mod paths;
 mod plain_release;
 mod pointers;
@@ -85,12 +89,12 @@ use crate::runs::worse::put_worse;
 pub use cuts::ManyStates;
 pub use explanation::{Explanation, Finding, FindingKind, Parts, Told};
 pub use heaps::greatest_bad;
-pub use mends::{Mend, Tried, mend_found, mends_of, text_with};
+pub use mends::{Mend, Tried, is_one_of_several, mend_found, mends_of, says_cause, text_with};
 pub use numbers::last_bad;
 pub use panics::panic_in_symbian;
 pub use shell_words::{ShellFile, ShellOptions};
 use std::alloc::{AllocError, Global};
-pub use unasked::{Question, Shown};
+pub use unasked::{Question, Shown, moves_with_room};
 use wb_heap_model::heap::Rule;
 use wb_heap_model::size::Rise;
 use wb_history::{Attempts, History, ScriptLines, WatchedRun};
@@ -170,16 +174,17 @@ pub fn states_found(
     page.whole()
 }
 
-/// A check that finds nothing tries further questions. Returns what one of these questions showed, and the command that shows it.
-/// The only error is that memory ran out.
+/// A check that finds nothing tries further questions. Returns what one of these questions showed, and the command that shows it. `moves`
+/// says whether a cell that grew moved in the run that is shown, though it had room. The only error is that memory ran out.
 pub fn unasked_found(
     alloc: Global,
     lines: &ScriptLines<'_>,
     shown: Shown<'_>,
+    moves: bool,
     options: ShellOptions,
 ) -> Result<Explanation, AllocError> {
     let mut page = ScriptPage::new(alloc, lines);
-    put_shown(&mut page, shown, options);
+    put_shown(&mut page, shown, moves, options);
     page.whole()
 }
 

@@ -10,10 +10,11 @@ use crate::unasked::{Verdict, ask, is_open};
 use std::alloc::Global;
 use wb_basics::memory::NoMemory;
 use wb_explain::runs::{
-    Explanation, Question, ShellOptions, nothing_else, unasked_found, undecided_question,
+    Explanation, Question, ShellOptions, moves_with_room, nothing_else, unasked_found,
+    undecided_question,
 };
 use wb_heap_model::heap::{Rule, Shape};
-use wb_history::{Keep, RunParameters, ScriptLines};
+use wb_history::{Keep, RunParameters, ScriptLines, WatchedRun};
 use wb_tree::script::Script;
 use wb_watch::watch_run;
 use workbench::Command;
@@ -42,11 +43,9 @@ pub fn explain_unasked(
         asked = true;
         let options = options_for(command, question);
         let verdict = ask(rt, command, script, question);
-        if let Some(shown) = verdict.shows() {
-            let found = unasked_found(alloc, lines, shown, options)?;
-            said.add(&found)?;
-            let run = explain_verdict(alloc, command, script, lines, &verdict)?;
-            said.add(&run)?;
+        if verdict.shows().is_some() {
+            let shown = explain_shown(alloc, command, script, lines, &verdict, options)?;
+            said.add(&shown)?;
             return Ok(said);
         }
         if let Verdict::Undecided = verdict {
@@ -74,18 +73,48 @@ fn options_for(command: &Command, question: Question) -> ShellOptions {
     }
 }
 
-/// The text on the run that a verdict shows; empty if the verdict shows no run. The only error is that memory ran out.
-fn explain_verdict(
+/// The text on what a verdict shows, and on its run; empty if it shows nothing. The only error is that memory ran out.
+fn explain_shown(
     alloc: Global,
     command: &Command,
     script: &Script,
     lines: &ScriptLines<'_>,
     verdict: &Verdict,
+    options: ShellOptions,
 ) -> Result<Explanation, NoMemory>
     requires { IsTrue (is_script script.now) }
 {
+    let Some(shown) = verdict.shows() else {
+        return Ok(Explanation::new(alloc));
+    };
+    let run = watch_verdict(alloc, command, script, verdict)?;
+    let mut said = unasked_found(alloc, lines, shown, has_moves(run.as_ref()), options)?;
+    if let Some(run) = &run {
+        let more = explain_run(alloc, command, script, lines, run)?;
+        said.add(&more)?;
+    }
+    Ok(said)
+}
+
+/// Whether a cell that grew moved in a run though it had room; true if there is no run to look at.
+fn has_moves(run: Option<&WatchedRun<'_>>) -> bool {
+    match run {
+        Some(run) => moves_with_room(run),
+        None => true,
+    }
+}
+
+/// The run that a verdict shows; `None` if the verdict shows no run. The only error is that memory ran out.
+fn watch_verdict<'a>(
+    alloc: Global,
+    command: &Command,
+    script: &'a Script,
+    verdict: &Verdict,
+) -> Result<Option<WatchedRun<'a>>, NoMemory>
+    requires { IsTrue (is_script script.now) }
+{
     let (rule, question) = match verdict {
-        Verdict::Fine | Verdict::Undecided => return Ok(Explanation::new(alloc)),
+        Verdict::Fine | Verdict::Undecided => return Ok(None),
         Verdict::From(first, _) => (Rule::From(*first), Question::Persistent),
         Verdict::Length(_, length) => (Rule::Limit(*length), Question::Lengths),
         Verdict::Set(at, _) => (at.try_copy()?.rule(), Question::Sets),
@@ -94,8 +123,5 @@ fn explain_verdict(
         shape: options_for(command, question).shape,
         ..parameters_of(command, rule)
     };
-    match watch_run(alloc, script, parameters, Keep::Named)? {
-        Some(run) => explain_run(alloc, command, script, lines, &run),
-        None => Ok(Explanation::new(alloc)),
-    }
+    watch_run(alloc, script, parameters, Keep::Named)
 }

@@ -10,7 +10,9 @@ ghost use Rattle.wb_tree.specs.Sound.{is_script};
 
 use std::alloc::Global;
 use wb_basics::memory::NoMemory;
-use wb_explain::runs::{Explanation, Mend, Tried, mend_found, mends_of, text_with};
+use wb_explain::runs::{
+    Explanation, Mend, Tried, is_one_of_several, mend_found, mends_of, says_cause, text_with,
+};
 use wb_heap_model::heap::Rule;
 use wb_history::{ScriptLines, WatchedRun};
 use wb_machine::run_reporting;
@@ -40,14 +42,25 @@ pub fn with_mend(
     let Ok(Some((mend, tried))) = best_mend(alloc, script, lines, found) else {
         return Ok(said);
     };
-    let help = mend_found(alloc, lines, mend, tried)?;
+    let has_many = has_many_failures(&found.parameters.rule);
+    let help = mend_found(alloc, lines, mend, tried, has_many)?;
     match tried {
-        Tried::Whole => Ok(said.with_only_help(alloc, &help)?),
-        Tried::ThisFailure => {
+        Tried::Whole if !is_one_of_several(mend) => {
+            Ok(said.with_only_help(alloc, &help, !says_cause(mend))?)
+        }
+        Tried::Whole | Tried::ThisFailure => {
             let mut said = said;
             said.add(&help)?;
             Ok(said)
         }
+    }
+}
+
+/// Whether a rule makes more than one attempt fail.
+fn has_many_failures(rule: &Rule) -> bool {
+    match rule {
+        Rule::Unlimited | Rule::Limit(_) | Rule::Number(_) => false,
+        Rule::Every(_) | Rule::From(_) | Rule::Pair(..) | Rule::Set(_) => true,
     }
 }
 

@@ -73,7 +73,7 @@ pub(crate) struct Cut {
 fn cut_of(fault: SweepFault) -> Result<Cut, SweepFault> {
     match fault {
         SweepFault::Cut { at, why } => Ok(Cut {
-            at: Refuses::named(&at),
+            at: Refuses::of(&at),
             why,
         }),
         other => Err(other),
@@ -88,7 +88,7 @@ pub(crate) fn found_in(
 ) -> Result<Result<Option<Refuses>, Cut>, Fail> {
     let script = read(alloc, script)?;
     match sweep(alloc, &script, failures, 99, SHAPE, &mut Silent) {
-        Ok(swept) => Ok(Ok(swept.found.as_ref().map(|found| Refuses::named(&found.at)))),
+        Ok(swept) => Ok(Ok(swept.found.as_ref().map(|found| Refuses::of(&found.at)))),
         Err(fault) => Ok(Err(cut_of(fault)?)),
     }
 }

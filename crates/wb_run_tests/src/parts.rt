@@ -126,7 +126,7 @@ static PARTS: [(Asked, Result<(u32, Option<Refuses>), Cut>); 16] = [
 fn cut_of(fault: Unswept) -> Result<Cut, Unswept> {
     match fault {
         Unswept::Cut { at, why } => Ok(Cut {
-            at: Refuses::named(&at),
+            at: Refuses::of(&at),
             why,
         }),
         other => Err(other),
@@ -151,7 +151,7 @@ fn parts_find_their_least(rt: HostRuntime) -> Result<(), Fail> {
         );
         let told = match told {
             Ok(swept) => {
-                let found = swept.found.as_ref().map(|found| Refuses::named(&found.at));
+                let found = swept.found.as_ref().map(|found| Refuses::of(&found.at));
                 Ok((swept.attempts, found))
             }
             Err(fault) => Err(cut_of(fault)?),
@@ -274,7 +274,7 @@ fn each_number_is_told(rt: HostRuntime) -> Result<(), Fail> {
         assert!(rt; told.ends.as_slice() == *ends, "ends {row}");
         assert_eq!(rt; told.bad, *bad, "bad {row}");
         assert_eq!(rt;
-            told.found.as_ref().map(|found| Refuses::named(&found.at)),
+            told.found.as_ref().map(|found| Refuses::of(&found.at)),
             *least,
             "least {row}"
         );

@@ -77,7 +77,7 @@ impl Progress for Listener<'_> {
     fn begin_failure(&mut self, at: &Failing) {
         match self.to_come.split_first() {
             Some((next, rest)) => {
-                self.is_as_wanted &= *next == Refuses::named(at);
+                self.is_as_wanted &= *next == Refuses::of(at);
                 self.to_come = rest;
             }
             None => self.is_as_wanted = false,

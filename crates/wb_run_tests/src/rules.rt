@@ -16,7 +16,7 @@ pub(crate) enum Refuses {
 
 impl Refuses {
     /// Returns which attempts a failure makes fail; `Nothing` for a set, which no row has.
-    pub(crate) fn named(at: &Failing) -> Refuses {
+    pub(crate) fn of(at: &Failing) -> Refuses {
         match at {
             Failing::Number(number) => Refuses::Number(*number),
             Failing::Every(rate) => Refuses::Every(*rate),

@@ -57,7 +57,7 @@ impl Progress for Listener {
     fn begin_failure(&mut self, at: &Failing) {
         self.are_in_order &= self.many == 1;
         self.failures = self.failures.wrapping_add(1);
-        self.are_in_order &= Refuses::named(at) == Refuses::Number(self.failures);
+        self.are_in_order &= Refuses::of(at) == Refuses::Number(self.failures);
     }
 
     fn begin_sets(&mut self, many: u32) {
@@ -125,10 +125,7 @@ fn listen_to_sweep(alloc: Global, script: &[u8], most: u32) -> Result<Listener, 
     requires { 1 ≤ most }
 {
     let script = read(alloc, script)?;
-    let all = Part {
-        from: 0,
-        to: u32::MAX,
-    };
+    let all = Part::WHOLE;
     let mut listener = Listener::new();
     let conditions = Conditions {
         budget: 1_000,

@@ -10,21 +10,14 @@ ghost use Rattle.wb_sweep.specs.Sweeping.{IsSweep};
 
 use crate::fault::Unswept;
 use crate::found::Sweep;
-use crate::sweeping::{find_later, sweep_whole};
+use crate::sweeping::{ALL, find_later, sweep_whole};
 use std::alloc::Global;
 use wb_meaning::conditions::Conditions;
 use wb_meaning::run::Outcome;
 use wb_runs::failures::{Failing, Failures};
-use wb_runs::part::Part;
 use wb_runs::progress::{Aim, Progress};
 use wb_runs::run_end::is_fine;
 use wb_tree::script::Script;
-
-/// All numbers.
-const ALL: Part = Part {
-    from: 0,
-    to: u32::MAX,
-};
 
 /// Does the same as `sweep`, given how the run without failure ends, and how many attempts and steps it makes. The run without failure is
 /// made again only if it isn't fine, and then it is the run that is found or cut. `progress` is notified as by `sweep`.

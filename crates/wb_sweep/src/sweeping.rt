@@ -32,6 +32,12 @@ use wb_runs::progress::{Aim, Progress};
 use wb_runs::run_end::is_fine;
 use wb_tree::script::Script;
 
+/// All numbers that an attempt can have.
+pub(crate) const ALL: Part = Part {
+    from: 0,
+    to: u32::MAX,
+};
+
 /// Judges the run without failure. Returns `Cut` if the run is cut, and the run if it is bad and the part has number 0. Returns `None` if
 /// the run is fine, or if it is bad but the part doesn't have number 0.
 fn judge_first(part: Part, at: Failing, first: RunResult) -> Result<Option<Found>, Unswept>
@@ -268,12 +274,8 @@ pub fn sweep_whole<P: Progress>(
         IsCutShort failures script.now conditions.budget conditions.shape at why }
     ensures known { (fine : ℕ) → result ≢ Err (Unswept.ManyStates fine) }
 {
-    let all = Part {
-        from: 0,
-        to: u32::MAX,
-    };
     progress.begin(Aim::least_of(failures));
-    let swept = find_least(alloc, script, failures, all, conditions, progress);
+    let swept = find_least(alloc, script, failures, ALL, conditions, progress);
     progress.end();
     swept
 }

@@ -39,6 +39,22 @@ pub fn overlooked_leave(page: &ScriptPage<'_>, run: &WatchedRun<'_>) -> Option<L
     }
 }
 
+/// Returns the index of the first of the lines by which a leave came about that the leave ended: that of the TRAP's body; 0 if `main` was left.
+pub fn first_ended(lines: &[u32], leave: Leave, run: &WatchedRun<'_>) -> usize {
+    let Some(trap) = leave.caught else {
+        return 0;
+    };
+    let (bodies, mut first) = (&run.history.bodies, 0);
+    for at in 0..lines.len() {
+        if let Some(line) = lines.get(at)
+            && bodies.body_of(*line) == bodies.body_of(trap.line)
+        {
+            first = at;
+        }
+    }
+    first
+}
+
 /// Whether the line after a leave tests the code `name` with `leaveiferror`, compares it with 0, or tests whether it equals the code of
 /// this leave. Any other comparison lets some errors pass.
 fn looks_at(page: &ScriptPage<'_>, leave: Leave, name: &str) -> bool {
@@ -58,13 +74,13 @@ pub fn put_look(page: &mut ScriptPage<'_>, leave: Leave, tested: &str) {
         let (line, at, name) = (leave.at.line, trap.line, page.word(trap.line, 1));
         let after = leave.after;
         if page.word(after, 0) == "trap" && page.word(after, 1) == name {
-            return page.page.write_help(format_args!(
+            return page.write_cause(format_args!(
                 "line {line} left, to the TRAP of line {at}, and the `trap` of line {after} gave `{name}` another value before a line looked at it: look at `{name}` before that, or let that `trap` set another int, and look at both"
             ));
         }
         if page.word(after, 0) == "if" && page.word(after, 2) == name {
             let (code, other) = (CodeName(leave.code), page.word(after, 3));
-            return page.page.write_help(format_args!(
+            return page.write_cause(format_args!(
                 "line {line} left with {code}, to the TRAP of line {at}, and line {after} only compares `{name}` with {other}: deal with each other error too, for example with an `else` that has `leaveiferror {name}`"
             ));
         }

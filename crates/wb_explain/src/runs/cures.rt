@@ -1,5 +1,6 @@
 //! What to do about a panic, or about a pointer that became null: words alone, or words about lines that a run came to.
 
+use crate::runs::callee_pushes::{CalleePush, put_cure_of_callee};
 use crate::runs::ended_by_call::{EndedByCall, put_cure_of_call};
 use crate::runs::for_leave::{FreedForLeave, put_share_too_late};
 use crate::runs::half_made::{HalfMade, put_cure_of_half};
@@ -43,6 +44,8 @@ pub enum Cure {
         push: u32,
         head: u32,
     },
+    /// A called body passed over a push, and its caller took off an item anyway.
+    CalleePush(CalleePush),
     /// A body came to its end at the line `last`, with this many items that it had pushed. `is_owned` says whether something else may own
     /// what they hold.
     ItemsKept {
@@ -114,12 +117,13 @@ pub fn put_cure(page: &mut ScriptPage<'_>, cure: Cure, run: &WatchedRun<'_>) {
             put_destroyed(page, left, name_of(page, used, fault));
         }
         Cure::PassedPush { off, push, head } => put_passed_push(page, off, push, head),
+        Cure::CalleePush(passed) => put_cure_of_callee(page, passed),
         Cure::ItemsKept {
             last,
             count,
             is_owned,
         } => put_items_kept(page, last, count, is_owned),
-        Cure::WholeObject { left } => page.page.write_help(format_args!(
+        Cure::WholeObject { left } => page.write_cause(format_args!(
             "the object was whole when line {left} left: undo there what was done by half, or do it only after that line; or check with `if some` first"
         )),
         Cure::HalfMade(half) => put_cure_of_half(page, half),
@@ -149,20 +153,20 @@ pub fn put_cure(page: &mut ScriptPage<'_>, cure: Cure, run: &WatchedRun<'_>) {
 
 fn put_field_kept(page: &mut ScriptPage<'_>, set: u32) {
     let name = page.word(set, 1);
-    page.page.write_help(format_args!(
+    page.write_cause(format_args!(
         "`{name}`, which line {set} set, still names it: set that only after the last line that may leave, or let the object's `destroy` set it to null"
     ));
 }
 
 fn put_destroyed(page: &mut ScriptPage<'_>, left: u32, name: &str) {
-    page.page.write_help(format_args!(
+    page.write_cause(format_args!(
         "the leave of line {left} destroyed it with its item: where that leave was caught, neither use `{name}` nor free it again"
     ));
 }
 
 fn put_check_before(page: &mut ScriptPage<'_>, from: u32, name: &str, used: u32, has_left: bool) {
     if has_left {
-        return page.page.write_help(format_args!(
+        return page.write_cause(format_args!(
             "`{name}` is null, since line {from} left: where that leave was caught, don't come to line {used}, or check it there with `if some {name}`"
         ));
     }
@@ -174,7 +178,7 @@ fn put_check_before(page: &mut ScriptPage<'_>, from: u32, name: &str, used: u32,
 
 fn put_too_early(page: &mut ScriptPage<'_>, set: u32, gone: u32) {
     let name = page.word(set, 1);
-    page.page.begin_help();
+    page.begin_cause();
     page.page.write_text("its item and the field both own it: ");
     if page.word(set, 0) != "set" {
         page.page
@@ -212,7 +216,7 @@ fn put_set_null(page: &mut ScriptPage<'_>, freed: u32) {
 
 fn put_uncounted(page: &mut ScriptPage<'_>, set: u32, left: u32) {
     let name = page.word(set, 1);
-    page.page.write_help(format_args!(
+    page.write_cause(format_args!(
         "the destructor gave up a user that wasn't counted yet when line {left} left: count the user right before line {set} sets `{name}`"
     ));
 }

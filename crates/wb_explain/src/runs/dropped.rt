@@ -62,7 +62,7 @@ fn only_call_of(page: &ScriptPage<'_>, procedure: &str) -> Option<u32> {
 /// Says what to do about a result that a call drops.
 pub fn put_dropped(page: &mut ScriptPage<'_>, dropped: Dropped<'_>) {
     let Dropped { procedure, call } = dropped;
-    page.page.write_help(format_args!(
+    page.write_cause(format_args!(
         "line {call} drops what `{procedure}` returns, which is null after the failed attempt: take it with `callto`, and look at it before the item is popped"
     ));
 }

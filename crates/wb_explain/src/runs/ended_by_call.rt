@@ -73,11 +73,11 @@ pub fn put_cure_of_call(page: &mut ScriptPage<'_>, it: EndedByCall, run: &Watche
     };
     let at = ended.at.number();
     if frees && head_around(page, at).is_some_and(|it| page.word(it.line, 0) == "if") {
-        return page.page.write_help(format_args!(
+        return page.write_cause(format_args!(
             "line {call} called `{callee}`, whose line {at} {deed} what it is called with on this way: let line {at} go, since line {used} does the same"
         ));
     }
-    page.page.begin_help();
+    page.begin_cause();
     page.page.write(format_args!(
         "line {call} called `{callee}`, which {deed} what it is called with: "
     ));

@@ -24,7 +24,7 @@ use crate::runs::old_value::{old_value, put_cure_of_old, put_old_value};
 use crate::runs::panics::{Meaning, meaning_of, symbian_of};
 use crate::runs::paths::{put_path, put_traps};
 use crate::runs::pointers::{cure_of, is_left_null, is_out_of_order, member_left_null, put_fault};
-use crate::runs::room::{cure_of_room, cure_of_words, put_room};
+use crate::runs::room::{cure_of_room, cure_of_words, put_measured, put_room};
 use crate::runs::script_page::{ScriptPage, Written};
 use crate::runs::sentences::put_values;
 use crate::runs::stored::{put_cure_of_stored, put_stored, stored_before_panic};
@@ -175,6 +175,7 @@ fn put_way(page: &mut ScriptPage<'_>, line: u32, raised: Raised, run: &WatchedRu
     }
     put_view(page, line, run)?;
     put_room(page, run)?;
+    put_measured(page, line, run)?;
     let kept = kept_value(page, line, run)?;
     put_kept(page, kept, run)?;
     put_half_made(page, line, run)?;

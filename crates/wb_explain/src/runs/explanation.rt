@@ -70,19 +70,32 @@ pub struct Explanation {
     pub text: String,
     parts: Vec<Part>,
     findings: Vec<Finding>,
+    /// The indexes of the parts of advice that first say, up to a colon, how it came to what was found.
+    causes: Vec<usize>,
 }
 
 impl Explanation {
     /// Nothing is explained yet.
     pub fn new(alloc: Global) -> Explanation {
-        Explanation::of(String::new(alloc), Vec::new(alloc), Vec::new(alloc))
+        Explanation::of(
+            String::new(alloc),
+            Vec::new(alloc),
+            Vec::new(alloc),
+            Vec::new(alloc),
+        )
     }
 
-    pub(super) fn of(text: String, parts: Vec<Part>, findings: Vec<Finding>) -> Explanation {
+    pub(super) fn of(
+        text: String,
+        parts: Vec<Part>,
+        findings: Vec<Finding>,
+        causes: Vec<usize>,
+    ) -> Explanation {
         Explanation {
             text,
             parts,
             findings,
+            causes,
         }
     }
 
@@ -103,6 +116,9 @@ impl Explanation {
                 way: finding.way.after(count),
                 ..*finding
             })?;
+        }
+        for cause in more.causes.as_slice() {
+            self.causes.push(cause.saturating_add(count))?;
         }
         Ok(())
     }

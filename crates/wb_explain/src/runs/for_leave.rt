@@ -197,7 +197,7 @@ pub fn put_share_too_late(
         left,
         within,
     } = freed;
-    page.page.begin_help();
+    page.begin_cause();
     page.page.write(format_args!(
         "the item of line {pushed}, destroyed for the leave of line {left}, freed the cell"
     ));

@@ -54,13 +54,13 @@ pub fn put_item_cure(page: &mut ScriptPage<'_>, cure: ItemCure, run: &WatchedRun
             let begun = run.history.bodies.body_of(used).line;
             let (name, operation) = (page.word(pushed, 1), page.word(begun, 1));
             let parameter = page.word(begun, 2);
-            page.page.write_help(format_args!(
+            page.write_cause(format_args!(
                 "line {pushed} pushed `{name}` when it was null, and the item keeps that: push it only after it has got its cell, or check in `{operation}` with `if some {parameter}`"
             ));
         }
         ItemCure::Returned { pushed, last } => {
             let (name, body) = (page.word(pushed, 1), body_name(page, last, run));
-            page.page.write_help(format_args!(
+            page.write_cause(format_args!(
                 "`{body}` returned what it had pushed: before the `return` of line {last} pop that, with `popcheck {name}`; or let each caller of `{body}` pop it, as after a `NewLC`"
             ));
         }
@@ -81,7 +81,7 @@ pub fn put_item_cure(page: &mut ScriptPage<'_>, cure: ItemCure, run: &WatchedRun
 
 fn put_set_in_call(page: &mut ScriptPage<'_>, set: u32, gone: u32, pushed: u32, call: u32) {
     let name = page.word(set, 1);
-    page.page.begin_help();
+    page.begin_cause();
     page.page
         .write(format_args!("its item and `{name}` both own it: let "));
     match gone {
@@ -103,11 +103,11 @@ fn put_field_of_caller(
 ) {
     let (name, callee) = (page.word(set, 1), body_name(page, pushed, run));
     if destroys_pushed(page, pushed, run) {
-        return page.page.write_help(format_args!(
+        return page.write_cause(format_args!(
             "`{callee}`, which line {call} calls, pushes it and so takes it over: set `{name}` to null before that line"
         ));
     }
-    page.page.write_help(format_args!(
+    page.write_cause(format_args!(
         "`{name}` owns it since line {set}, and `{callee}`, which line {call} calls, pushes it: let line {pushed} go, and in `{callee}` pop one item fewer"
     ));
 }

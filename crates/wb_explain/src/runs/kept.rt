@@ -1,6 +1,8 @@
 //! What is said about a pointer that is null or names a dead cell: which line set it so, and which line left before changing the pointer.
 
+use crate::runs::caught::first_ended;
 use crate::runs::copies::put_cure_of_copied;
+use crate::runs::never_set::put_never_set;
 use crate::runs::pointers::failed_for;
 use crate::runs::script_page::{ScriptPage, Written};
 use crate::runs::shared::object_of;
@@ -206,8 +208,10 @@ fn line_left(
         return Ok(None);
     }
     let lines = run.history.calls.lines_of(leave.at.path)?;
-    for left in lines.as_slice() {
-        if is_to_give(page, *left, line, name, fault, run) {
+    for at in first_ended(lines.as_slice(), leave, run)..lines.len() {
+        if let Some(left) = lines.get(at)
+            && is_to_give(page, *left, line, name, fault, run)
+        {
             return Ok(Some(*left));
         }
     }
@@ -280,7 +284,7 @@ pub fn put_kept(page: &mut ScriptPage<'_>, kept: Option<Kept>, run: &WatchedRun<
         None => match run.end.pointer {
             Some(fault) if fault.state == PointerState::Null => match fault.write {
                 Some(write) => put_null(page, write),
-                None => Ok(()),
+                None => put_never_set(page, run),
             },
             _ => Ok(()),
         },
@@ -330,7 +334,10 @@ fn put_null(page: &mut ScriptPage<'_>, write: PointerWrite) -> Written {
 
 /// Says what to do about a pointer that is null or names a dead cell.
 pub fn put_cure_of_kept(page: &mut ScriptPage<'_>, kept: Kept, run: &WatchedRun<'_>) {
-    page.page.begin_help();
+    match kept {
+        Kept::ByOperation(_) | Kept::Unchecked { .. } => page.begin_cause(),
+        _ => page.page.begin_help(),
+    }
     match kept {
         Kept::Dead { left, ended } => put_cure_of_dead(page, left, ended, run),
         Kept::Null { left, from, .. } => {

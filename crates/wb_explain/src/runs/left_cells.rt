@@ -1,7 +1,7 @@
 //! What is said about a cell that a leave lost: where its item was popped, or which field let go of it, and what to do.
 
 use crate::runs::heads::{end_of, head_around};
-use crate::runs::let_go::let_go;
+use crate::runs::let_go::{let_go, let_go_after_copy, put_let_go};
 use crate::runs::losses::is_popped_elsewhere;
 use crate::runs::operations::{put_operation, put_operation_cure};
 use crate::runs::script_page::{ScriptPage, Written};
@@ -10,17 +10,26 @@ use wb_history::{Leave, Life, WatchedRun};
 
 /// Says where the item of a cell was pushed that a leave lost though the item wasn't popped.
 pub fn put_left_item(page: &mut ScriptPage<'_>, life: Life, run: &WatchedRun<'_>) -> Written {
+    let pushed = last_pushed(life, run);
     page.mark_new(
-        life.pushed.number(),
+        pushed,
         0,
         "its item was pushed here, and the operation didn't free the cell",
     )?;
-    put_operation(page, life.pushed.number(), run)
+    put_operation(page, pushed, run)
+}
+
+/// Returns the line that pushed the item of a cell that was destroyed last; the last line that pushed the cell, if that item was another cell's.
+pub fn last_pushed(life: Life, run: &WatchedRun<'_>) -> u32 {
+    match run.history.last_item {
+        Some(item) if item.pointer() == life.pointer => item.pushed.line,
+        _ => life.pushed.number(),
+    }
 }
 
 /// Says which line left, and what to do about the cell's item.
 pub fn put_left_cure(page: &mut ScriptPage<'_>, leave: Leave, life: Life, run: &WatchedRun<'_>) {
-    page.page.begin_help();
+    page.begin_cause();
     page.page.write(format_args!("line {} left", leave.at.line));
     if let Some(trap) = leave.caught {
         page.page
@@ -109,6 +118,25 @@ fn push_of(kind: Kind) -> &'static str {
         Kind::Object(_) => "pushobj",
         Kind::Raw | Kind::Text | Kind::Cleanup => "push",
     }
+}
+
+/// Says which field let go of a cell that was never pushed, before a leave lost it.
+pub fn put_unpushed(
+    page: &mut ScriptPage<'_>,
+    leave: Leave,
+    life: Life,
+    run: &WatchedRun<'_>,
+) -> Written {
+    if let Some(let_go) = let_go(page, life, run) {
+        return put_let_go(page, let_go);
+    }
+    let line = let_go_after_copy(page, life, line_of_leave(leave, life, run));
+    let name = page.word(line, 1);
+    page.mark_new(
+        line,
+        1,
+        format_args!("`{name}` had let go of it by this line"),
+    )
 }
 
 /// The line by which the leave came about, in the body whose local was last set to the cell; the line that left if there is none.

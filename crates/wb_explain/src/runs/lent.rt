@@ -1,6 +1,7 @@
 //! A cell that a body lent: it gave the cell to a local or to its caller while a field kept it, and both were then freed.
 
 use crate::runs::kept::name_of;
+use crate::runs::led::led_to;
 use crate::runs::script_page::{ScriptPage, Written};
 use crate::runs::shared::field_of;
 use wb_history::{By, End, Ended, PointerFault, WatchedRun};
@@ -16,6 +17,9 @@ pub struct Lent {
     word: usize,
     /// The line that gave the local its value by which the cell was freed.
     got: u32,
+    /// If the local only used what the field owns: the line that freed the cell, and the line of the local's body that led to it; else 0.
+    freed: u32,
+    led: u32,
 }
 
 /// Returns the line that gave away a cell which was then freed by a local and by a field; `None` if there is no such line.
@@ -36,9 +40,48 @@ pub fn lent_cell(
     }
     match (field_of(used), field_of(other)) {
         (Some(field), _) => given_from(page, other, freed, field, run),
-        (None, Some(field)) => given_from(page, used, line, field, run),
+        (None, Some(field)) => {
+            let lent = given_from(page, used, line, field, run);
+            with_line_that_freed(page, lent, freed, line, run)
+        }
         (None, None) => None,
     }
+}
+
+/// Notes what freed the cell, if no line of the body gives it up by the local that uses it.
+fn with_line_that_freed(
+    page: &ScriptPage<'_>,
+    lent: Option<Lent>,
+    freed: u32,
+    used: u32,
+    run: &WatchedRun<'_>,
+) -> Option<Lent> {
+    match lent {
+        Some(lent) if !gives_up(page, lent.got, run) => Some(Lent {
+            freed,
+            led: led_to(page, freed, used, run),
+            ..lent
+        }),
+        _ => lent,
+    }
+}
+
+/// Whether a line of a body releases, pushes, returns or stores what a local of the line `got` names.
+fn gives_up(page: &ScriptPage<'_>, got: u32, run: &WatchedRun<'_>) -> bool {
+    let (bodies, name) = (&run.history.bodies, page.word(got, 1));
+    let body = bodies.body_of(got);
+    for at in body.line..=page.lines.count() {
+        let gives = match page.word(at, 0) {
+            "free" | "delete" | "push" | "pushobj" | "pushop" | "return" => page.word(at, 1)
+                == name,
+            "set" | "realloc" | "reallocl" | "hrealloc" => page.word(at, 2) == name,
+            _ => false,
+        };
+        if gives && bodies.body_of(at) == body {
+            return true;
+        }
+    }
+    false
 }
 
 /// The line that gave this field's cell to the local `name` of the line `at`, perhaps by way of other locals and of called bodies.
@@ -61,6 +104,8 @@ fn given_from(
                 gave: line,
                 word,
                 got,
+                freed: 0,
+                led: 0,
             });
         }
         (line, word) = (giver_above(page, source, line, run), 2);
@@ -116,9 +161,22 @@ pub fn put_given(
 }
 
 fn put_lent(page: &mut ScriptPage<'_>, lent: Lent) -> Written {
-    let Lent { gave, word, got } = lent;
+    let Lent {
+        gave,
+        word,
+        got,
+        freed,
+        ..
+    } = lent;
     let (name, local) = (page.word(gave, word), page.word(got, 1));
     page.tell_unordered();
+    if freed != 0 {
+        return page.mark_new(
+            got,
+            1,
+            format_args!("`{local}` got here what `{name}` keeps"),
+        );
+    }
     page.mark_new(
         gave,
         word,
@@ -129,9 +187,17 @@ fn put_lent(page: &mut ScriptPage<'_>, lent: Lent) -> Written {
 
 /// Says what to do about a cell that was given away.
 pub fn put_cure_of_lent(page: &mut ScriptPage<'_>, lent: Lent) {
-    let Lent { gave, word, .. } = lent;
+    let Lent {
+        gave,
+        word,
+        freed,
+        ..
+    } = lent;
+    if freed != 0 {
+        return put_cure_while_lent(page, lent);
+    }
     let name = page.word(gave, word);
-    page.page.begin_help();
+    page.begin_cause();
     page.page.write(format_args!("line {gave} gives away the cell that `{name}` still owns: "));
     if page.word(gave, 0) == "return" {
         page.page.write(format_args!(
@@ -141,5 +207,26 @@ pub fn put_cure_of_lent(page: &mut ScriptPage<'_>, lent: Lent) {
         page.page
             .write(format_args!("set `{name}` to null right after that line"));
     }
+    page.page.end_line();
+}
+
+fn put_cure_while_lent(page: &mut ScriptPage<'_>, lent: Lent) {
+    let Lent {
+        gave,
+        word,
+        got,
+        freed,
+        led,
+    } = lent;
+    let (name, local) = (page.word(gave, word), page.word(got, 1));
+    page.begin_cause();
+    if led == 0 || led == freed {
+        page.page.write(format_args!("line {freed} freed "));
+    } else {
+        page.page.write(format_args!("the call of line {led} freed, at line {freed}, "));
+    }
+    page.page.write(format_args!(
+        "what `{name}` had lent to `{local}`: use `{local}` only before that, or take the cell out of the field while `{local}` is used"
+    ));
     page.page.end_line();
 }

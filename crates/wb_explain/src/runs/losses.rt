@@ -2,18 +2,21 @@
 
 use crate::runs::caught::{overlooked_leave, put_look};
 use crate::runs::dropped::{dropped_result, put_dropped};
-use crate::runs::left_cells::{put_left_cure, put_left_item};
+use crate::runs::left_cells::{last_pushed, put_left_cure, put_left_item, put_unpushed};
 use crate::runs::let_go::{let_go, put_let_go};
+use crate::runs::out_of_scope::put_out_of_scope;
 use crate::runs::overwritten::{put_overwritten, put_second_time};
-use crate::runs::paths::{AfterLine, before_name, body_name, put_path};
+use crate::runs::passed_release::{passed_release, put_cure_of_passed, put_passed};
+use crate::runs::paths::{body_name, put_path};
 use crate::runs::plain_release::{class_name, put_cure_of_deleted, put_cure_of_plain};
-use crate::runs::raised::{RaisedCount, put_cure_of_raised, put_raised, raised_count};
+use crate::runs::raised::{
+    RaisedCount, put_cure_of_raised, put_raised, raised_before, raised_count,
+};
 use crate::runs::script_page::{ScriptPage, Written};
 use crate::runs::taken::{Then, is_to_leave, put_cure_of_left, put_left};
 use crate::runs::unlooked::{put_unlooked, put_unlooked_call, unlooked_result};
 use wb_heap_model::heap::Kind;
-use wb_history::{BodyKind, By, End, Ended, Held, ItemOnStack, Leave, Life, Stay, WatchedRun};
-use wb_tree::script::{Holder, Pointer, Statement};
+use wb_history::{By, End, Ended, Held, ItemOnStack, Leave, Life, Stay, WatchedRun};
 
 /// How a cell was lost.
 #[derive(Clone, Copy)]
@@ -60,7 +63,7 @@ pub fn put_held(page: &mut ScriptPage<'_>, life: Life) -> Written {
         Some(held) if held.line != life.made => {
             let line = held.line.number();
             let name = page.word(line, 1);
-            page.mark_new(line, 1, format_args!("`{name}` got it last, here"))
+            page.mark_new(line, 1, format_args!("`{name}` got it here"))
         }
         _ => Ok(()),
     }
@@ -79,6 +82,7 @@ pub fn put_loss(page: &mut ScriptPage<'_>, life: Life, run: &WatchedRun<'_>) -> 
         put_second_time(page, line, life, run)?;
     }
     put_item(page, loss, life, run)?;
+    put_passed_over(page, loss, life, run)?;
     if is_unlooked(loss) {
         put_unlooked_call(page, unlooked_result(page, life, run))?;
     }
@@ -100,6 +104,26 @@ pub fn put_loss(page: &mut ScriptPage<'_>, life: Life, run: &WatchedRun<'_>) -> 
     }
     put_cure(page, loss, life, run);
     Ok(())
+}
+
+/// Says which `if` passed over the line that frees a cell: one that goes by the number of the cell's users, or one in the destructor of the
+/// cell's owner.
+fn put_passed_over(
+    page: &mut ScriptPage<'_>,
+    loss: Loss,
+    life: Life,
+    run: &WatchedRun<'_>,
+) -> Written {
+    match loss {
+        Loss::StillNamed | Loss::OutOfScope(_) => match raised_before(page, life, run) {
+            Some(raised) => put_raised(page, raised, run),
+            None => Ok(()),
+        },
+        Loss::OwnerGone(owner, ended) if ended.end == End::Deleted => {
+            put_passed(page, passed_release(page, owner, life, run))
+        }
+        _ => Ok(()),
+    }
 }
 
 /// Says where the item was pushed that was destroyed last, if the operation of this line is its operation.
@@ -134,7 +158,11 @@ fn raised_for(
 /// popped it, names both lines. Then says which body left the item to its caller, if `left_with` finds one.
 fn put_item(page: &mut ScriptPage<'_>, loss: Loss, life: Life, run: &WatchedRun<'_>) -> Written {
     let (popped, pushed) = (life.popped.number(), life.pushed.number());
-    if let Loss::OnStack(_) = loss {
+    if let Loss::Left(leave) = loss
+        && pushed == 0
+    {
+        put_unpushed(page, leave, life, run)?;
+    } else if let Loss::OnStack(_) = loss {
         page.mark_new(
             pushed,
             0,
@@ -146,7 +174,7 @@ fn put_item(page: &mut ScriptPage<'_>, loss: Loss, life: Life, run: &WatchedRun<
         put_left_item(page, life, run)?;
     } else if popped == 0 {
         page.mark_new(
-            pushed,
+            last_pushed(life, run),
             0,
             "its item was pushed here, and the operation didn't free the cell",
         )?;
@@ -223,9 +251,10 @@ fn put_cure_of_loss(page: &mut ScriptPage<'_>, loss: Loss, life: Life, run: &Wat
         Loss::OwnerGone(owner, ended) if ended.end != End::Deleted => {
             put_cure_of_plain(page, owner, ended, name, life.kind);
         }
-        Loss::OwnerGone(owner, ended) => {
-            put_cure_of_deleted(page, owner, ended.at.number(), name, life.kind);
-        }
+        Loss::OwnerGone(owner, ended) => match passed_release(page, owner, life, run) {
+            Some(passed) => put_cure_of_passed(page, passed, ended.at.number()),
+            None => put_cure_of_deleted(page, owner, ended.at.number(), name, life.kind),
+        },
         Loss::OwnerLeaks(owner) => {
             let (line, class) = (owner.made.number(), class_name(page, owner));
             let field = name.split('.').nth(1).unwrap_or(name);
@@ -283,7 +312,7 @@ fn put_still_named(page: &mut ScriptPage<'_>, life: Life, run: &WatchedRun<'_>) 
 }
 
 /// Says what would have freed a cell whose item was popped; says nothing if the item wasn't popped.
-fn put_in_place_of_pop(page: &mut ScriptPage<'_>, life: Life) {
+pub fn put_in_place_of_pop(page: &mut ScriptPage<'_>, life: Life) {
     let line = life.popped.number();
     if line != 0 {
         let word = page.word(line, 0);
@@ -298,61 +327,6 @@ pub fn release_of(kind: Kind) -> &'static str {
     match kind {
         Kind::Object(_) => "`delete` the object",
         _ => "free the cell",
-    }
-}
-
-/// Says which body ended, and what to do. `held` is a local of this body, and was the last pointer that was set to the cell.
-fn put_out_of_scope(
-    page: &mut ScriptPage<'_>,
-    life: Life,
-    held: Held,
-    name: &str,
-    run: &WatchedRun<'_>,
-) {
-    let release = release_of(life.kind);
-    let body = run.history.bodies.body_of(held.line.number());
-    let (what, owner) = (before_name(body.kind), page.word(body.line, 1));
-    let line = held.caller.number();
-    let last = run
-        .history
-        .calls
-        .last_line_of(u32::from(held.depth), held.since);
-    if last != 0 && returns(run, held) {
-        return page.page.write_help(format_args!(
-            "line {line} doesn't take the pointer that `{owner}` returns: take it with `callto`, and {release}"
-        ));
-    }
-    let (end, otherwise) = (
-        AfterLine(last),
-        instead_of_freeing(body.kind, page.word(line, 0)),
-    );
-    page.page.begin_help();
-    page.page.write(format_args!(
-        "`{name}` went out of scope when {what}{owner}`, which line {line} called, ended{end}: "
-    ));
-    put_in_place_of_pop(page, life);
-    page.page
-        .write(format_args!("{release} before that{otherwise}"));
-    page.page.end_line();
-}
-
-/// What a body may do with its own cell instead of freeing the cell. `call` is the first word of the line that called the body.
-fn instead_of_freeing(kind: BodyKind, call: &str) -> &'static str {
-    match kind {
-        BodyKind::Procedure if call != "callto" => "",
-        BodyKind::Procedure => ", or return the pointer",
-        BodyKind::Construct => ", or keep the pointer in a field",
-        BodyKind::Nothing | BodyKind::Destructor | BodyKind::Operation => "",
-    }
-}
-
-/// Whether the body of this local ended by returning the local's pointer.
-fn returns(run: &WatchedRun<'_>, held: Held) -> bool {
-    match run.history.calls.statement_at(u32::from(held.depth)) {
-        Some(Statement::ReturnPointer(Pointer::Held(Holder::Local(index)))) => {
-            *index == held.index
-        }
-        _ => false,
     }
 }
 

@@ -92,7 +92,7 @@ fn set_below(
 pub fn put_cure_of_place(page: &mut ScriptPage<'_>, place: NewPlace) {
     let NewPlace { got, left, set } = place;
     let (local, name) = (page.word(got, 1), page.word(set, 1));
-    page.page.write_help(format_args!(
+    page.write_cause(format_args!(
         "line {got} gave `{local}` the new place, and line {left} left before line {set} set `{name}` to it: let line {set} come right after line {got}"
     ));
 }

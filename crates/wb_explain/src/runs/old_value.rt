@@ -21,6 +21,7 @@ pub fn old_value(page: &ScriptPage<'_>, run: &WatchedRun<'_>) -> Option<OldValue
         return None;
     };
     let leave = overlooked_leave(page, run)?;
+    let write = run.end.pointer?.write;
     let (bodies, trap, made) = (&run.history.bodies, leave.caught?, life.made.number());
     let Ok(lines) = run.history.calls.lines_of(leave.at.path) else {
         return None;
@@ -29,7 +30,8 @@ pub fn old_value(page: &ScriptPage<'_>, run: &WatchedRun<'_>) -> Option<OldValue
         let is_here = bodies.body_of(*left) == bodies.body_of(trap.line);
         let is_maker = led_to(page, made, left.saturating_add(1), run) == *left;
         let gives = page.word(*left, 0) != "call" && field_of(page.word(*left, 1)).is_none();
-        if is_here && is_maker && gives {
+        let is_last = write.is_none_or(|it| it.line == *left);
+        if is_here && is_maker && gives && is_last {
             return Some(OldValue { leave, left: *left });
         }
     }

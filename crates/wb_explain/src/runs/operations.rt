@@ -30,7 +30,8 @@ pub fn put_operation(page: &mut ScriptPage<'_>, pushed: u32, run: &WatchedRun<'_
 
 /// Writes what to do about the operation that the line `pushed` pushed.
 pub fn put_operation_cure(page: &mut ScriptPage<'_>, pushed: u32, run: &WatchedRun<'_>) {
-    page.page.write_text(" and ran the operation of its item");
+    page.page
+        .write_text(" and ran the operation of the cell's item");
     let Some(PassedFree { free, head }) = passed_free(page, pushed) else {
         return page.page.write_text(": let that free the cell");
     };

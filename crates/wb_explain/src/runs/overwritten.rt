@@ -23,7 +23,7 @@ pub fn put_overwritten(
         return put_cure(page, cure, run);
     }
     let release = release_of(kind);
-    page.page.begin_help();
+    page.begin_cause();
     page.page.write(format_args!("line {line} gave `{name}` another value: {release}"));
     if may_leave(page, line) && (name.contains('.') || is_in_trap(page, line)) {
         page.page.write(format_args!(" and set `{name}` to null"));

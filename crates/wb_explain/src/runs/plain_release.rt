@@ -16,12 +16,12 @@ pub fn put_cure_of_plain(
     let (line, class) = (ended.at.number(), class_name(page, owner));
     if has_destructor(page, class) {
         let cure = instead_of_plain(ended.by);
-        return page.page.write_help(format_args!(
+        return page.write_cause(format_args!(
             "line {line} freed the object that owned it as a plain cell, so its destructor didn't run: {cure}"
         ));
     }
     let (field, release) = (field_of(name).unwrap_or(name), release_word(kind));
-    page.page.begin_help();
+    page.begin_cause();
     page.page.write(format_args!(
         "line {line} freed the object whose field `{field}` still named it, and `{class}` has no `destroy`: "
     ));
@@ -58,11 +58,11 @@ pub fn put_cure_of_deleted(
         release_word(kind),
     );
     if has_destructor(page, class) {
-        return page.page.write_help(format_args!(
-            "line {line} deleted the object that owned it: let the `destroy` of `{class}` {release} the field `{field}`"
+        return page.write_cause(format_args!(
+            "the object that owned it was deleted at line {line}: let the `destroy` of `{class}` {release} the field `{field}`"
         ));
     }
-    page.page.write_help(format_args!(
+    page.write_cause(format_args!(
         "line {line} deleted the object whose field `{field}` still named it, and `{class}` has no `destroy`: {release} what `{field}` names before line {line}; or let a `destroy` of `{class}` {release} it, and no other line"
     ));
 }

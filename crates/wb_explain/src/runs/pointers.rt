@@ -9,6 +9,7 @@ use crate::runs::half_made::half_made;
 use crate::runs::item_cures::ItemCure;
 use crate::runs::item_kept::kept_past_use;
 use crate::runs::kept::name_of;
+use crate::runs::never_set::cure_of_unset;
 use crate::runs::new_place::cure_of_moved;
 use crate::runs::owners::{cure_of_leave, cure_of_two_owners};
 use crate::runs::panics::{CHECK_FIRST, CHECK_IN_OPERATION};
@@ -173,7 +174,7 @@ fn cure_outside(
     }
     match failed_for(run, line, fault) {
         Some(made) => cure_of_maker(run, line, fault, made),
-        None => Cure::Words(CHECK_FIRST),
+        None => Cure::Words(cure_of_unset(run, fault)),
     }
 }
 

@@ -24,10 +24,29 @@ pub struct RaisedCount {
     left: u32,
 }
 
-/// Returns the number of users that kept a cell from being freed, if it had been raised before a line left; `None` if no such number is known.
+/// Returns the number of users that kept a cell from being freed, if it had been raised before a line left; `None` if no such number is known,
+/// or if an operation or a destructor has stored the number since, which may have lowered it again.
 pub fn raised_count(
     page: &ScriptPage<'_>,
     life: Life,
+    run: &WatchedRun<'_>,
+) -> Option<RaisedCount> {
+    count_raised(page, life, true, run)
+}
+
+/// Does what `raised_count` does, also if an operation or a destructor has stored the number since.
+pub fn raised_before(
+    page: &ScriptPage<'_>,
+    life: Life,
+    run: &WatchedRun<'_>,
+) -> Option<RaisedCount> {
+    count_raised(page, life, false, run)
+}
+
+fn count_raised(
+    page: &ScriptPage<'_>,
+    life: Life,
+    is_last: bool,
     run: &WatchedRun<'_>,
 ) -> Option<RaisedCount> {
     let (mut raised, mut newest) = (None, 0u32);
@@ -42,7 +61,7 @@ pub fn raised_count(
             && page.word(line, 0) == "if"
             && let Some(load) = count_for(page, line, life, run)
             && newest <= load.step
-            && let Some((store, at, left)) = lost_store(page, load, run)
+            && let Some((store, at, left)) = lost_store(page, load, is_last, run)
         {
             newest = load.step;
             raised = Some(RaisedCount {
@@ -79,16 +98,19 @@ fn count_for(
 }
 
 /// The newest store before a load that raised the number inside a TRAP to which a line then left, and the lines of one body by which both
-/// came about. `None` if there is none, or if an operation or a destructor has stored the number since, which may have lowered it again.
+/// came about. `None` if there is none, or if `is_last` and an operation or a destructor has stored the number since.
 fn lost_store(
     page: &ScriptPage<'_>,
     load: WordUse,
+    is_last: bool,
     run: &WatchedRun<'_>,
 ) -> Option<(WordUse, u32, u32)> {
     let (uses, bodies) = (&run.history.word_uses, &run.history.bodies);
     let mut store = uses.store_before(load)?;
     for _ in 0..MOST_STORES {
-        if bodies.undoes(store.line) && bodies.body_of(store.line) != bodies.body_of(load.line) {
+        let undoes = bodies.undoes(store.line)
+            && bodies.body_of(store.line) != bodies.body_of(load.line);
+        if is_last && undoes {
             return None;
         }
         let before = uses.store_before(store)?;
@@ -133,7 +155,7 @@ pub fn put_raised(page: &mut ScriptPage<'_>, raised: RaisedCount, run: &WatchedR
 /// Says what to do about a number of users that was raised too early.
 pub fn put_cure_of_raised(page: &mut ScriptPage<'_>, raised: RaisedCount) {
     let RaisedCount { at, left, .. } = raised;
-    page.page.write_help(format_args!(
+    page.write_cause(format_args!(
         "line {left} left when one more user was counted, and nothing took that back: let line {at} come only after the last line that may leave, or push an operation that takes it back; or take it back where the leave is caught"
     ));
 }

@@ -1,5 +1,5 @@
-//! What is said about a text that would be longer than its maximum, and about a word past a cell's end: where the room was set, and what
-//! to do.
+//! What is said about a text that would be longer than its maximum, and about a word past a cell's end: where the room was set, which other cell
+//! was measured, and what to do.
 
 use crate::runs::script_page::{ScriptPage, Written};
 use wb_history::{Maker, Values, WatchedRun};
@@ -49,6 +49,9 @@ pub fn cure_of_words(page: &ScriptPage<'_>, run: &WatchedRun<'_>) -> Option<&'st
     };
     let failed = last_failed(run)?;
     match failed.statement? {
+        Statement::Realloc(..) if is_grown_by_other(run, failed.line) => Some(
+            "the line that was to make the cell longer failed, and another one made it longer by less: set the count of its words to what it then has",
+        ),
         Statement::Realloc(..) => Some(
             "the line that was to make a cell longer failed, and the cell kept its length: change a count of its words only after that line, and only where it was granted",
         ),
@@ -57,6 +60,19 @@ pub fn cure_of_words(page: &ScriptPage<'_>, run: &WatchedRun<'_>) -> Option<&'st
         ),
         _ => None,
     }
+}
+
+/// Whether another line than `failed` was the last that made the cell of a panic longer.
+fn is_grown_by_other(run: &WatchedRun<'_>, failed: u32) -> bool {
+    let Some(life) = run.history.lives.find(run.end.names) else {
+        return false;
+    };
+    let grown = if life.grown.is_none() && life.is_reallocated() {
+        life.made
+    } else {
+        life.grown
+    };
+    grown.is_some() && grown.number() != failed
 }
 
 /// Whether the cell that a panic is about was made by another line than `failed`, in the same body and for a pointer of the same name.
@@ -85,4 +101,36 @@ pub fn cure_of_room(run: &WatchedRun<'_>) -> &'static str {
         _ =>
             "ask for more room where the text is made, or with `hrealloc` before this line; `getmax` gives its maximum",
     }
+}
+
+/// Says which line above a panic measured a cell last, in the same body, if this isn't the cell that the panic is about.
+pub fn put_measured(page: &mut ScriptPage<'_>, line: u32, run: &WatchedRun<'_>) -> Written {
+    match run.end.values {
+        Some(meant) if matches!(meant.values, Values::NoWord { .. }) => {}
+        _ => return Ok(()),
+    }
+    let used = match page.word(line, 0) {
+        "store" => page.word(line, 1),
+        _ => page.word(line, 2),
+    };
+    let bodies = &run.history.bodies;
+    for back in 1..line {
+        let at = line.saturating_sub(back);
+        if bodies.body_of(at) != bodies.body_of(line) {
+            break;
+        }
+        if page.word(at, 0) == "alloclen" {
+            let measured = page.word(at, 2);
+            return if measured == used {
+                Ok(())
+            } else {
+                page.mark_new(
+                    at,
+                    2,
+                    format_args!("this measured `{measured}`, and line {line} uses `{used}`"),
+                )
+            };
+        }
+    }
+    Ok(())
 }

@@ -19,6 +19,10 @@ pub struct ScriptPage<'a> {
     /// The lines that were shown as leading to the last finding, so that no line is shown twice.
     told: Vec<u32>,
     findings: Vec<Finding>,
+    /// The indexes of the lines of advice that first say how it came to what was found.
+    causes: Vec<usize>,
+    /// Whether memory ran out for `causes`.
+    is_cut: bool,
     /// Whether what is written next belongs to the last finding.
     is_in_finding: bool,
 }
@@ -32,6 +36,8 @@ impl<'a> ScriptPage<'a> {
             page: Page::new(alloc, lines.name),
             told: Vec::new(alloc),
             findings: Vec::new(alloc),
+            causes: Vec::new(alloc),
+            is_cut: false,
             is_in_finding: false,
         }
     }
@@ -40,9 +46,33 @@ impl<'a> ScriptPage<'a> {
     pub fn whole(self) -> Result<Explanation, AllocError> {
         let mut page = self;
         page.end_finding();
-        let ScriptPage { page, findings, .. } = page;
+        if page.is_cut {
+            return Err(AllocError);
+        }
+        let ScriptPage {
+            page,
+            findings,
+            causes,
+            ..
+        } = page;
         let (text, parts) = page.whole_parts()?;
-        Ok(Explanation::of(text, parts, findings))
+        Ok(Explanation::of(text, parts, findings, causes))
+    }
+
+    /// Begins a line of advice that first says, up to a colon, how it came to what was found. That stays if the advice is replaced.
+    pub fn begin_cause(&mut self) {
+        let part = self.page.part_count();
+        if self.causes.push(part).is_err() {
+            self.is_cut = true;
+        }
+        self.page.begin_help();
+    }
+
+    /// Writes a line of advice that first says, up to a colon, how it came to what was found.
+    pub fn write_cause<D: Display + Drop>(&mut self, advice: D) {
+        self.begin_cause();
+        self.page.write(advice);
+        self.page.end_line();
     }
 
     /// Begins a finding. The finding's own message comes next, and then how the finding came about, in the order `told`.

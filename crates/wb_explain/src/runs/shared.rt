@@ -94,7 +94,7 @@ pub fn put_cure_of_shared(page: &mut ScriptPage<'_>, shared: SharedCell) {
         Kind::Object(_) => ("this object", "an object"),
         Kind::Raw | Kind::Cleanup => ("this cell", "a cell"),
     };
-    page.page.begin_help();
+    page.begin_cause();
     if made != 0 && other != 0 {
         page.page.write(format_args!("the objects of lines {made} and {other} both own"));
     } else {

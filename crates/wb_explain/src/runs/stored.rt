@@ -45,7 +45,7 @@ pub fn stored_before_panic(
                     ..
                 },
             ),
-        ) => passed_growth(page, line, run),
+        ) => stored_around(page, line, run).or(passed_growth(page, line, run)),
         _ => None,
     }
 }
@@ -161,7 +161,7 @@ pub fn put_stored(page: &mut ScriptPage<'_>, stored: Option<Stored>) -> Written 
     };
     let (verb, does) = match page.word(head, 0) {
         "repeat" => ("by which line", "repeats"),
-        _ => ("at which line", "looks"),
+        _ => ("by which line", "goes"),
     };
     page.mark_new(
         line,

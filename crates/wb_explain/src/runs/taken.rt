@@ -1,5 +1,6 @@
 //! What is said about items that a body leaves to its caller, items that a body takes from its caller, and items that are popped twice.
 
+use crate::runs::callee_pushes::{callee_push, put_callee_push};
 use crate::runs::counts::Many;
 use crate::runs::cures::Cure;
 use crate::runs::left_inside::{left_inside, put_cure_of_inside, put_left_inside};
@@ -25,6 +26,14 @@ pub fn cure_of_taken(page: &ScriptPage<'_>, run: &WatchedRun<'_>) -> Cure {
         Some(_) => Cure::Words(
             "a body takes off only as many items as it pushed itself: on the way that passes over the push, pop one item fewer",
         ),
+        None => cure_beside_callee(page, taken, run),
+    }
+}
+
+/// What to do about an item that a body took from its caller, if no push of this body was passed over.
+fn cure_beside_callee(page: &ScriptPage<'_>, taken: Taken, run: &WatchedRun<'_>) -> Cure {
+    match callee_push(page, taken, run) {
+        Some(passed) => Cure::CalleePush(passed),
         None if taken.body.most <= taken.body.began => {
             Cure::Words("a body takes off only as many items as it pushed itself")
         }
@@ -68,7 +77,7 @@ pub fn put_of_caller(
             0,
             format_args!("`{name}` passed this over, and had pushed no item before line {line}"),
         ),
-        None => Ok(()),
+        None => put_callee_push(page, callee_push(page, taken, run), run),
     }
 }
 

@@ -1,37 +1,85 @@
 //! What is said about the life of a cell: where it was made, put on the cleanup stack, and freed, deleted or moved, and by what.
 
 use crate::runs::for_leave::{put_other_item, put_ran_for};
+use crate::runs::heads::head_around;
 use crate::runs::item_gone::has_two_items;
 use crate::runs::pointers::owner_left;
 use crate::runs::script_page::{ScriptPage, Written};
+use crate::runs::stored::loads_for;
 use crate::runs::taken::{destroyed_after_callee, put_callee, put_of_caller, taken_with};
-use wb_history::{BodyKind, By, End, Ended, History, Life, WatchedRun};
+use wb_history::{BodyKind, By, End, Ended, History, Life, WatchedRun, WordUse};
 
 /// What is said about a line that moved a cell, though the cell had room to grow at its place.
 const MOVED_BY_FLAG: &str = "it moved here because of `--moving`: the bytes after it were free";
 
-/// Says how the life of a cell ended, where the cell was pushed, and where the cell was made. Leaves out where the cell was pushed if its
-/// item was popped and a line itself ended the cell's life.
+/// Says how the life of a cell ended, where the cell was pushed, and where the cell was made.
 pub fn put_life(page: &mut ScriptPage<'_>, run: &WatchedRun<'_>, life: Life) -> Written {
     let history = &run.history;
     if let Some(ended) = life.ended {
         put_of_caller(page, taken_with(ended, run), run)?;
         put_callee(page, destroyed_after_callee(page, ended, run), run)?;
         put_end(page, history, ended)?;
+        put_count(page, run, ended, life)?;
         put_ran_for(page, run, life)?;
-        if ended.by != By::Line || life.popped.is_none() {
-            let said = if has_two_items(run, life.ended) {
-                "its newer item, destroyed first, was pushed here"
-            } else {
-                "it was pushed here"
-            };
-            page.mark_new(life.pushed.number(), 1, said)?;
-        }
+        put_pushed(page, run, life)?;
         put_other_item(page, run, life)?;
         put_other_holder(page, history, ended, life)?;
         put_owner_left(page, run, ended, life)?;
     }
     page.mark_new(life.made.number(), 1, "it was made here")
+}
+
+/// Says where a cell was pushed, unless the item that was pushed last was popped: if another item of the cell was destroyed then, it isn't
+/// known where that was pushed.
+fn put_pushed(page: &mut ScriptPage<'_>, run: &WatchedRun<'_>, life: Life) -> Written {
+    if has_two_items(run, life.ended) {
+        return page.mark_new(
+            life.pushed.number(),
+            1,
+            "its newer item, destroyed first, was pushed here",
+        );
+    }
+    if life.popped.is_some() {
+        return Ok(());
+    }
+    page.mark_new(life.pushed.number(), 1, "it was pushed here")
+}
+
+/// Says which number of a cell a line loaded for the block in which a line ended the cell's life.
+fn put_count(page: &mut ScriptPage<'_>, run: &WatchedRun<'_>, ended: Ended, life: Life) -> Written {
+    match load_for(page, run, ended, life) {
+        Some((WordUse { number, line, .. }, head)) => {
+            let word = page.word(head, 0);
+            page.tell_unordered();
+            page.mark_new(
+                line,
+                0,
+                format_args!("this loaded {number} for the `{word}` of line {head}"),
+            )
+        }
+        None => Ok(()),
+    }
+}
+
+/// The load of a number of a cell for the block in which a line ended the cell's life, and the first line of that block; `None` if there is none.
+fn load_for(
+    page: &ScriptPage<'_>,
+    run: &WatchedRun<'_>,
+    ended: Ended,
+    life: Life,
+) -> Option<(WordUse, u32)> {
+    if ended.by != By::Line {
+        return None;
+    }
+    let head = head_around(page, ended.at.number())?.line;
+    for load in loads_for(page, head, run) {
+        if let Some(word) = load
+            && word.cell == life.pointer
+        {
+            return Some((word, head));
+        }
+    }
+    None
 }
 
 /// Says which line left, if a destructor released a cell and the destructor's object was destroyed because of a leave.
@@ -77,7 +125,7 @@ fn put_other_holder(
                     || is_freed_by(page, history, held.line.number(), ended)) => {
             let line = held.line.number();
             let name = page.word(line, 1);
-            page.mark_new(line, 1, format_args!("`{name}` got it last, here"))
+            page.mark_new(line, 1, format_args!("`{name}` got it here"))
         }
         _ => Ok(()),
     }

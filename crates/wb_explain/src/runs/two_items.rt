@@ -87,7 +87,7 @@ pub fn destroys_pushed(page: &ScriptPage<'_>, pushed: u32, run: &WatchedRun<'_>)
 
 /// Says which of the two items is one too many.
 pub fn put_cure_of_two(page: &mut ScriptPage<'_>, items: TwoItems, run: &WatchedRun<'_>) {
-    page.page.begin_help();
+    page.begin_cause();
     match items {
         TwoItems::Called {
             pushed,

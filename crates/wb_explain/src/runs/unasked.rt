@@ -6,6 +6,8 @@ use crate::runs::number_lists::put_list;
 use crate::runs::script_page::ScriptPage;
 use crate::runs::shell_words::ShellOptions;
 use crate::runs::spread::lengths_of;
+use wb_heap_model::heap::Ptr;
+use wb_history::{Origin, WatchedRun};
 use wb_runs::lengths::LengthRange;
 use wb_runs::run_end::RunEnd;
 
@@ -42,8 +44,22 @@ pub enum Shown<'a> {
     Sets(&'a [u32], RunEnd),
 }
 
-/// Says what was found, and the command that shows it.
-pub fn put_shown(page: &mut ScriptPage<'_>, shown: Shown<'_>, options: ShellOptions) {
+/// Returns whether a cell that grew moved in a run though it had room to grow at its place.
+pub fn moves_with_room(run: &WatchedRun<'_>) -> bool {
+    for made in run.history.attempts.kept_attempts() {
+        let (place, number) = (made.attempt.place, made.attempt.number);
+        if made.is_granted()
+            && let Some(life) = run.history.lives.find(Ptr { place, number })
+            && life.origin == Origin::MovedWithRoom
+        {
+            return true;
+        }
+    }
+    false
+}
+
+/// Says what was found, and the command that shows it. `moves` says whether a cell that grew moved in that run though it had room.
+pub fn put_shown(page: &mut ScriptPage<'_>, shown: Shown<'_>, moves: bool, options: ShellOptions) {
     match shown {
         Shown::Persistent(first, end) => {
             let command = Question::Persistent.command();
@@ -53,12 +69,18 @@ pub fn put_shown(page: &mut ScriptPage<'_>, shown: Shown<'_>, options: ShellOpti
             ));
         }
         Shown::Lengths(ranges) => put_least_bad(page, ranges, options),
-        Shown::Sets(numbers, end) => put_set(page, numbers, end, options),
+        Shown::Sets(numbers, end) => put_set(page, numbers, end, moves, options),
     }
 }
 
 /// Says which set was found; the empty set is the run without failure.
-fn put_set(page: &mut ScriptPage<'_>, numbers: &[u32], end: RunEnd, options: ShellOptions) {
+fn put_set(
+    page: &mut ScriptPage<'_>,
+    numbers: &[u32],
+    end: RunEnd,
+    moves: bool,
+    options: ShellOptions,
+) {
     page.page.begin_file_message();
     match numbers.len() {
         0 => {}
@@ -66,13 +88,13 @@ fn put_set(page: &mut ScriptPage<'_>, numbers: &[u32], end: RunEnd, options: She
         _ => page.page.write_text("where attempts "),
     }
     put_list(page, numbers, numbers.len());
-    match numbers.len() {
-        0 => page.page.write_text("where each cell that grows moves"),
-        1 => page
-            .page
-            .write_text(" fails and each cell that grows moves"),
-        _ => page.page.write_text(" fail and each cell that grows moves"),
-    }
+    page.page.write_text(match numbers.len() {
+        0 => "where each cell that grows moves",
+        1 if moves => " fails and each cell that grows moves",
+        1 => " fails",
+        _ if moves => " fail and each cell that grows moves",
+        _ => " fail",
+    });
     let command = Question::Sets.command();
     page.page.write(format_args!(
         ", this script {}; `{command}{options}` shows it",

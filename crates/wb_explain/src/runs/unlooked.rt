@@ -184,7 +184,7 @@ pub fn put_unlooked(page: &mut ScriptPage<'_>, unlooked: Unlooked) {
         popped,
     } = unlooked;
     let (name, procedure) = (page.word(call, 1), page.word(call, 2));
-    page.page.begin_help();
+    page.begin_cause();
     page.page.write(format_args!(
         "line {failed} gave null, so `{procedure}` returned null to line {call}"
     ));

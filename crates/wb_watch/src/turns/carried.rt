@@ -124,7 +124,7 @@ impl<'a> Watcher<'a> {
             }
             Statement::Return => {
                 self.blocks.end_body(machine.depth());
-                Ok(())
+                self.history.see_return(machine.depth(), NULL, None)
             }
             Statement::ReturnPointer(_) => {
                 self.blocks.end_body(machine.depth());

@@ -1,4 +1,5 @@
-//! An explanation in which a change of the script that was tried replaces all other advice.
+//! An explanation in which a change of the script that was tried replaces all other advice, but not what the advice says of how it came to
+//! what was found.
 
 use crate::runs::explanation::{Explanation, Finding, Parts};
 use std::alloc::{AllocError, Global};
@@ -7,18 +8,30 @@ use wb_pages::{Part, PartKind};
 /// What a line of advice begins with.
 const HELP: &str = "help: ";
 
+/// What a line begins with that says what else there is to know.
+const NOTE: &str = "note: ";
+
+/// What stands between the cause and the advice in a line of advice that first says how it came to what was found.
+const THEN: &str = ": ";
+
 impl Explanation {
     /// Returns this explanation with `help` in the place of its first advice, and without its other advice. If there is no advice, `help`
-    /// comes at the end. The only error is that memory ran out.
+    /// comes at the end. If `keeps_causes`, notes keep what advice says of how it came to what was found. The only error is that memory ran
+    /// out.
     pub fn with_only_help(
         &self,
         alloc: Global,
         help: &Explanation,
+        keeps_causes: bool,
     ) -> Result<Explanation, AllocError> {
         let mut copy = Copy::of(alloc, self.text.as_str());
-        for part in self.parts.as_slice() {
+        for index in 0..self.parts.len() {
+            let Some(part) = self.parts.get(index) else {
+                break;
+            };
             if part.kind == PartKind::Help {
-                copy.replace(*part, help)?;
+                let has_cause = keeps_causes && self.causes.as_slice().contains(&index);
+                copy.replace(*part, has_cause, help)?;
             } else {
                 copy.keep(*part)?;
             }
@@ -72,18 +85,44 @@ impl<'a> Copy<'a> {
         Ok(())
     }
 
-    /// Leaves a line of advice out. The first one is replaced by `help`.
-    fn replace(&mut self, part: Part, help: &Explanation) -> Result<(), AllocError> {
+    /// Leaves a line of advice out, but for the cause that it may begin with. The first one is replaced by `help`.
+    fn replace(
+        &mut self,
+        part: Part,
+        has_cause: bool,
+        help: &Explanation,
+    ) -> Result<(), AllocError> {
         self.places.push(self.whole.parts.len())?;
         let before = self.take(part.from.saturating_sub(HELP.len()));
         self.whole.text.push_str(before)?;
-        let words = part.words(self.text).len();
-        self.take(part.from.saturating_add(words).saturating_add(1));
+        let words = part.words(self.text);
+        self.take(part.from.saturating_add(words.len()).saturating_add(1));
+        if has_cause {
+            self.add_cause(words)?;
+        }
         if self.has_help {
             return Ok(());
         }
         self.has_help = true;
         self.whole.add(help)
+    }
+
+    /// Adds a note with the cause that a line of advice begins with, if it begins with one.
+    fn add_cause(&mut self, advice: &str) -> Result<(), AllocError> {
+        let Some((cause, _)) = advice.split_once(THEN) else {
+            return Ok(());
+        };
+        self.whole.text.push_str(NOTE)?;
+        let from = self.whole.text.len();
+        self.whole.text.push_str(cause)?;
+        self.whole.text.push_str("\n")?;
+        self.whole.parts.push(Part {
+            kind: PartKind::Note,
+            line: 0,
+            span: None,
+            from,
+        })?;
+        Ok(())
     }
 
     /// Copies the rest of the text, and the findings. If nothing was replaced, `help` comes at the end.

@@ -2,6 +2,9 @@
 
 use wb_history::ScriptLines;
 
+/// How many blocks a line may stand in, with its body.
+const MOST_BLOCKS: u32 = 17;
+
 /// What a line is for the blocks of its script.
 #[derive(Clone, Copy, Debug, PartialEq, Eq)]
 enum LineRole {
@@ -60,6 +63,18 @@ pub fn block_around(lines: &ScriptLines<'_>, line: u32) -> u32 {
     0
 }
 
+/// Returns the line that begins the body around a line; 0 if there is none.
+pub fn body_around(lines: &ScriptLines<'_>, line: u32) -> u32 {
+    let mut at = line;
+    for _ in 0..MOST_BLOCKS {
+        at = block_around(lines, at);
+        if at == 0 || begins_body(lines, at) {
+            return at;
+        }
+    }
+    0
+}
+
 /// Returns the last line of the statement that begins at a line: the `end` of its block, or the line itself.
 pub fn last_line_of(lines: &ScriptLines<'_>, first: u32) -> u32 {
     if role_of(lines, first) != LineRole::Opens {
@@ -103,6 +118,26 @@ pub fn statement_after(lines: &ScriptLines<'_>, last: u32) -> u32 {
             LineRole::Opens | LineRole::Plain => return at,
             LineRole::Turns | LineRole::Ends => return 0,
             LineRole::Nothing => {}
+        }
+    }
+    0
+}
+
+/// Returns the line that ends the innermost branch around a line, its `end` or its `else`, if this is a branch of an `if`; 0 otherwise.
+pub fn end_of_branch(lines: &ScriptLines<'_>, line: u32) -> u32 {
+    if lines.word(block_around(lines, line), 0) != "if" {
+        return 0;
+    }
+    let mut last = last_line_of(lines, line);
+    for _ in 0..lines.count() {
+        match statement_after(lines, last) {
+            0 => break,
+            at => last = last_line_of(lines, at),
+        }
+    }
+    for at in last.saturating_add(1)..=lines.count() {
+        if let LineRole::Turns | LineRole::Ends = role_of(lines, at) {
+            return at;
         }
     }
     0

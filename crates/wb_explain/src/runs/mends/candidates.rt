@@ -1,34 +1,65 @@
 //! Which changes of a script may mend what a run found, in the order in which they are to be tried.
 
-use crate::runs::let_go::let_go;
+use crate::runs::mends::aliases::{add_alias_null, add_copy_left_out, add_given_back};
 use crate::runs::mends::anchors::{Anchor, anchors_of};
-use crate::runs::mends::blocks::{begins_body, last_line_of, statement_after, statement_before};
-use crate::runs::mends::destructors::add_destroyed;
+use crate::runs::mends::copied_releases::{add_copied_pops, add_copied_releases, add_moved_out};
+use crate::runs::mends::counts_reset::add_count_reset;
+use crate::runs::mends::destructors::{add_destroyed, add_remade};
+use crate::runs::mends::done_by_item::{add_done_by_item, add_undo_left_out};
 use crate::runs::mends::edits::Mend;
+use crate::runs::mends::fresh_cells::{add_made_first, add_made_pushed, add_set_later};
 use crate::runs::mends::fresh_values::add_fresh_value;
+use crate::runs::mends::guards::add_only_if_fine;
+use crate::runs::mends::held::add_items;
 use crate::runs::mends::items::{add_null_item, add_one_item_less, add_pop};
-use crate::runs::script_page::ScriptPage;
+use crate::runs::mends::kept_values::add_kept_values;
+use crate::runs::mends::looks::{add_look, add_other_tests};
+use crate::runs::mends::moves::{
+    add_earlier, add_later, add_later_release, add_leaver_later, add_pushed_earlier,
+};
+use crate::runs::mends::null_leaves::add_freed_for_null;
+use crate::runs::mends::nulls::{
+    add_asks_leaving, add_checked, add_leaving, add_null_leaves, add_realloc_kept,
+};
+use crate::runs::mends::passed_pushes::add_for_passed;
+use crate::runs::mends::pop_counts::add_pop_counts;
+use crate::runs::mends::push_orders::{add_push_order, add_pushed_once};
+use crate::runs::mends::release_orders::add_used_first;
+use crate::runs::mends::releases::{
+    add_freed_at_return, add_freed_first, add_left_out, add_released_once,
+};
+use crate::runs::mends::rooms::add_room;
+use crate::runs::mends::sooner::{add_before_run, add_call_first, add_sooner};
+use crate::runs::mends::split_pops::add_split_pops;
+use crate::runs::mends::stored_back::add_stored_back;
+use crate::runs::mends::taken_out::add_taken_out;
+use crate::runs::mends::views::add_view_copied;
 use std::alloc::{AllocError, Global};
-use wb_heap_model::heap::{Kind, Ptr};
+use wb_heap_model::heap::Ptr;
 use wb_history::{Life, ScriptLines, WatchedRun};
 use wb_meaning::run::Outcome;
 
-/// The most changes that are proposed.
-const MOST_MENDS: usize = 120;
+/// The most changes that are proposed in all, and up to each group of them, so that no group keeps out those that come after it.
+const MOST_MENDS: usize = 150;
 
-/// How many statements of a block are looked at, before and after one that failed or left.
-const MOST_BESIDE: u32 = 12;
+const MOST_MOVES: usize = 55;
+
+const MOST_OF_LEAVES: usize = 100;
+
+const MOST_OF_CELLS: usize = 125;
 
 /// Changes that may mend a script, in the order in which they are to be tried.
 #[derive(Drop)]
 pub struct Mends<'a> {
     all: Vec<Mend<'a>>,
+    /// How many changes there may be so far.
+    most: usize,
 }
 
 impl<'a> Mends<'a> {
     /// Whether no further change is proposed.
     fn is_full(&self) -> bool {
-        self.all.len() >= MOST_MENDS
+        self.all.len() >= self.most
     }
 
     pub fn add(&mut self, mend: Mend<'a>) -> Result<(), AllocError> {
@@ -48,210 +79,168 @@ pub fn mends_of<'a>(
     let anchors = anchors_of(alloc, lines, run)?;
     let mut mends = Mends {
         all: Vec::new(alloc),
+        most: MOST_MOVES,
     };
+    add_for_owners(&mut mends, lines, run)?;
+    add_of_lines(&mut mends, lines, anchors.as_slice(), run)?;
+    add_freed_at_return(&mut mends, lines, run)?;
+    add_moves_of(&mut mends, lines, anchors.as_slice(), run)?;
+    mends.most = MOST_OF_LEAVES;
+    add_for_leaves(alloc, &mut mends, lines, anchors.as_slice(), run)?;
+    mends.most = MOST_OF_CELLS;
+    add_for_cells(&mut mends, lines, anchors.as_slice(), run)?;
+    add_taken_out(alloc, &mut mends, lines, run)?;
+    mends.most = MOST_MENDS;
+    add_for_lines(&mut mends, lines)?;
     for anchor in anchors.as_slice() {
-        add_later(&mut mends, lines, *anchor)?;
-        add_earlier(&mut mends, lines, *anchor)?;
+        add_asks_leaving(&mut mends, lines, *anchor)?;
     }
-    for anchor in anchors.as_slice() {
-        add_look(&mut mends, lines, *anchor)?;
-        add_old_value(&mut mends, lines, *anchor)?;
-        add_item(alloc, &mut mends, lines, *anchor, run)?;
+    Ok(mends.all)
+}
+
+/// Proposes changes about what owns the cell that a panic or a leak is about.
+fn add_for_owners<'a>(
+    mends: &mut Mends<'a>,
+    lines: &ScriptLines<'a>,
+    run: &WatchedRun<'_>,
+) -> Result<(), AllocError> {
+    add_alias_null(mends, lines, run)?;
+    add_view_copied(mends, lines, run)?;
+    add_left_out(mends, lines, run)?;
+    add_used_first(mends, lines, run)?;
+    add_copy_left_out(mends, lines, run)?;
+    add_given_back(mends, lines, run)?;
+    add_count_reset(mends, lines, run)?;
+    add_kept_values(mends, lines, run)?;
+    add_pushed_once(mends, lines, run)?;
+    add_push_order(mends, lines, run)?;
+    add_remade(mends, lines, run)?;
+    add_freed_first(mends, lines, true, run)
+}
+
+/// Proposes changes about lines that are done on one way alone, or twice.
+fn add_of_lines<'a>(
+    mends: &mut Mends<'a>,
+    lines: &ScriptLines<'a>,
+    anchors: &[Anchor],
+    run: &WatchedRun<'_>,
+) -> Result<(), AllocError> {
+    for anchor in anchors {
+        add_done_by_item(mends, lines, *anchor, run)?;
     }
-    add_destroyed(&mut mends, lines, run)?;
-    add_fresh_value(&mut mends, lines, run)?;
+    add_released_once(mends, lines, run)?;
+    add_pop_counts(mends, lines, run)?;
+    add_other_tests(mends, lines, anchors, run)?;
+    add_for_passed(mends, lines, anchors, run)?;
+    add_copied_releases(mends, lines, run)?;
+    add_moved_out(mends, lines, run)?;
+    add_copied_pops(mends, lines, run)
+}
+
+/// Proposes that lines come later or earlier than the statements at which a run went wrong.
+fn add_moves_of<'a>(
+    mends: &mut Mends<'a>,
+    lines: &ScriptLines<'a>,
+    anchors: &[Anchor],
+    run: &WatchedRun<'_>,
+) -> Result<(), AllocError> {
+    for anchor in anchors {
+        add_pushed_earlier(mends, lines, *anchor)?;
+        if has_panicked(run) {
+            add_before_run(mends, lines, *anchor)?;
+        }
+        add_call_first(mends, lines, *anchor)?;
+        add_later(mends, lines, *anchor, run)?;
+        add_earlier(mends, lines, *anchor)?;
+        add_leaver_later(mends, lines, *anchor)?;
+    }
+    Ok(())
+}
+
+/// Proposes changes about what is done by half, or held by nothing, when a statement leaves.
+fn add_for_leaves<'a>(
+    alloc: Global,
+    mends: &mut Mends<'a>,
+    lines: &ScriptLines<'a>,
+    anchors: &[Anchor],
+    run: &WatchedRun<'_>,
+) -> Result<(), AllocError> {
+    if has_panicked(run) {
+        add_stored_back(alloc, mends, lines, run)?;
+        add_checked(mends, lines, run)?;
+        add_for_fields(mends, lines, anchors)?;
+    }
+    for anchor in anchors {
+        add_sooner(mends, lines, *anchor)?;
+    }
+    for anchor in anchors {
+        add_leaving(mends, lines, *anchor)?;
+        add_freed_for_null(mends, lines, *anchor)?;
+        add_realloc_kept(mends, lines, *anchor)?;
+        add_items(alloc, mends, lines, *anchor, run)?;
+        add_split_pops(mends, lines, *anchor)?;
+    }
+    for anchor in anchors {
+        add_look(mends, lines, *anchor)?;
+        add_only_if_fine(mends, lines, *anchor, run)?;
+        add_old_value(mends, lines, *anchor)?;
+    }
+    Ok(())
+}
+
+/// Proposes changes about fields that were changed by half when a statement left.
+fn add_for_fields<'a>(
+    mends: &mut Mends<'a>,
+    lines: &ScriptLines<'a>,
+    anchors: &[Anchor],
+) -> Result<(), AllocError> {
+    for anchor in anchors {
+        add_made_first(mends, lines, *anchor)?;
+        add_made_pushed(mends, lines, *anchor)?;
+        add_set_later(mends, lines, *anchor)?;
+        add_later_release(mends, lines, *anchor)?;
+    }
+    Ok(())
+}
+
+fn has_panicked(run: &WatchedRun<'_>) -> bool {
+    match run.outcome {
+        Outcome::Panicked(_) => true,
+        _ => false,
+    }
+}
+
+/// Proposes changes about the cell or the pointer that a leak or a panic is about.
+fn add_for_cells<'a>(
+    mends: &mut Mends<'a>,
+    lines: &ScriptLines<'a>,
+    anchors: &[Anchor],
+    run: &WatchedRun<'_>,
+) -> Result<(), AllocError> {
+    add_freed_first(mends, lines, false, run)?;
+    add_room(mends, lines, run)?;
+    add_null_leaves(mends, lines, run)?;
+    add_destroyed(mends, lines, run)?;
+    for anchor in anchors {
+        add_undo_left_out(mends, lines, *anchor)?;
+    }
+    add_fresh_value(mends, lines, run)
+}
+
+/// Proposes changes about single lines, wherever they stand.
+fn add_for_lines<'a>(mends: &mut Mends<'a>, lines: &ScriptLines<'a>) -> Result<(), AllocError> {
     for line in 1..=lines.count() {
-        add_null(&mut mends, lines, line)?;
+        add_null(mends, lines, line)?;
     }
     for line in 1..=lines.count() {
         if mends.is_full() {
             break;
         }
-        add_one_item_less(&mut mends, lines, line)?;
-        add_pop(&mut mends, lines, line)?;
-        add_null_item(&mut mends, lines, line)?;
-    }
-    Ok(mends.all)
-}
-
-/// Proposes that a line before a statement that failed or left comes after it, or after the last statement of the block that may leave.
-fn add_later<'a>(
-    mends: &mut Mends<'a>,
-    lines: &ScriptLines<'a>,
-    anchor: Anchor,
-) -> Result<(), AllocError> {
-    let end = last_that_may_leave(lines, anchor);
-    let mut at = anchor.first;
-    for _ in 0..MOST_BESIDE {
-        at = statement_before(lines, at);
-        if at == 0 {
-            break;
-        }
-        if may_come_later(lines, at, anchor) {
-            add_moves(mends, at, anchor, end)?;
-        }
+        add_one_item_less(mends, lines, line)?;
+        add_pop(mends, lines, line)?;
+        add_null_item(mends, lines, line)?;
     }
     Ok(())
-}
-
-fn add_moves<'a>(
-    mends: &mut Mends<'a>,
-    line: u32,
-    anchor: Anchor,
-    end: u32,
-) -> Result<(), AllocError> {
-    let (failed, has_left) = (anchor.first, anchor.has_left);
-    mends.add(Mend::Later {
-        line,
-        failed,
-        has_left,
-        after: anchor.last,
-    })?;
-    if end != anchor.last {
-        mends.add(Mend::Later {
-            line,
-            failed,
-            has_left,
-            after: end,
-        })?;
-    }
-    Ok(())
-}
-
-/// Whether a line may be done later: not if a statement after the one that left makes its pointer null anyway.
-fn may_come_later(lines: &ScriptLines<'_>, line: u32, anchor: Anchor) -> bool {
-    match lines.word(line, 0) {
-        "store" | "call" | "null" | "pop" | "popcheck" => true,
-        "set" => !is_made_null(lines, anchor, lines.word(line, 1)),
-        _ => false,
-    }
-}
-
-/// Whether a statement after this one, in the same block, makes a pointer null.
-fn is_made_null(lines: &ScriptLines<'_>, anchor: Anchor, name: &str) -> bool {
-    let mut last = anchor.last;
-    for _ in 0..MOST_BESIDE {
-        let at = statement_after(lines, last);
-        if at == 0 {
-            break;
-        }
-        if lines.word(at, 0) == "null" && lines.word(at, 1) == name {
-            return true;
-        }
-        last = last_line_of(lines, at);
-    }
-    false
-}
-
-/// The last line of the last statement of a block that may leave, from one that did on.
-fn last_that_may_leave(lines: &ScriptLines<'_>, anchor: Anchor) -> u32 {
-    let (mut last, mut found) = (anchor.last, anchor.last);
-    for _ in 0..MOST_BESIDE {
-        let at = statement_after(lines, last);
-        if at == 0 {
-            break;
-        }
-        last = last_line_of(lines, at);
-        if may_leave(lines.word(at, 0)) {
-            found = last;
-        }
-    }
-    found
-}
-
-/// Whether a statement with this first word may leave.
-fn may_leave(word: &str) -> bool {
-    match word {
-        "newleave" | "allocl" | "reallocl" | "hnewl" | "push" | "pushobj" | "pushop" => true,
-        "call" | "callto" | "construct" | "leave" | "leaveiferror" | "leaveifnull" => true,
-        "if" | "repeat" => true,
-        _ => false,
-    }
-}
-
-/// Proposes that a line after a statement that left comes before it. If that would pop what was only just pushed, proposes to leave out both.
-fn add_earlier<'a>(
-    mends: &mut Mends<'a>,
-    lines: &ScriptLines<'a>,
-    anchor: Anchor,
-) -> Result<(), AllocError> {
-    if !anchor.has_left {
-        return Ok(());
-    }
-    let above = statement_before(lines, anchor.first);
-    let mut last = anchor.last;
-    for _ in 0..MOST_BESIDE {
-        let at = statement_after(lines, last);
-        if at == 0 {
-            break;
-        }
-        let word = lines.word(at, 0);
-        if word.starts_with("pop") && lines.word(above, 0).starts_with("push") {
-            add_without_item(mends, lines, above, at)?;
-        } else if may_come_earlier(word) {
-            mends.add(Mend::Earlier {
-                line: at,
-                failed: anchor.first,
-            })?;
-        }
-        last = last_line_of(lines, at);
-    }
-    Ok(())
-}
-
-/// Proposes to leave out a push and the line that pops its item.
-fn add_without_item<'a>(
-    mends: &mut Mends<'a>,
-    lines: &ScriptLines<'a>,
-    push: u32,
-    pop: u32,
-) -> Result<(), AllocError> {
-    match (lines.word(pop, 0), lines.word(pop, 1)) {
-        ("popcheck", _) | ("pop", "1") => mends.add(Mend::WithoutItem { push, pop }),
-        _ => Ok(()),
-    }
-}
-
-/// Whether a statement with this first word may be done earlier.
-fn may_come_earlier(word: &str) -> bool {
-    match word {
-        "null" | "set" | "store" | "push" | "pushobj" | "pushop" | "pop" | "popcheck" => true,
-        _ => false,
-    }
-}
-
-/// Proposes that the code of a TRAP that caught a leave is looked at, if no line of its body does so.
-fn add_look<'a>(
-    mends: &mut Mends<'a>,
-    lines: &ScriptLines<'a>,
-    anchor: Anchor,
-) -> Result<(), AllocError> {
-    let name = lines.word(anchor.first, 1);
-    if !anchor.has_left
-        || lines.word(anchor.first, 0) != "trap"
-        || is_looked_at(lines, anchor, name)
-    {
-        return Ok(());
-    }
-    mends.add(Mend::CodeLookedAt {
-        trap: anchor.first,
-        end: anchor.last,
-        name,
-    })
-}
-
-/// Whether a line after a TRAP, up to the next body, names the int that the TRAP sets.
-fn is_looked_at(lines: &ScriptLines<'_>, anchor: Anchor, name: &str) -> bool {
-    for line in anchor.last.saturating_add(1)..=lines.count() {
-        if begins_body(lines, line) {
-            break;
-        }
-        let names = lines.line(line).split_whitespace().any(|word| word == name);
-        if names && lines.word(line, 0) != "trap" {
-            return true;
-        }
-    }
-    false
 }
 
 /// Proposes that the pointer to which a `callto` gives its result is null before the call.
@@ -269,48 +258,12 @@ fn add_old_value<'a>(
     })
 }
 
-/// Proposes an item for the first cell that leaks, if a local of the same body was the last pointer that was set to the cell, and if the
-/// cell had no item before, or a field owned it since.
-fn add_item<'a>(
-    alloc: Global,
-    mends: &mut Mends<'a>,
-    lines: &ScriptLines<'a>,
-    anchor: Anchor,
-    run: &WatchedRun<'_>,
-) -> Result<(), AllocError> {
-    if !anchor.has_left || lines.word(anchor.first, 0) == "trap" {
-        return Ok(());
-    }
-    let Some(life) = first_leak(run) else {
-        return Ok(());
-    };
-    let Some(held) = life.held else {
-        return Ok(());
-    };
-    let (bodies, line) = (&run.history.bodies, held.line.number());
-    if life.popped.is_some() && let_go(&ScriptPage::new(alloc, lines), life, run).is_none() {
-        return Ok(());
-    }
-    if held.is_field() || bodies.body_of(line) != bodies.body_of(anchor.first) {
-        return Ok(());
-    }
-    mends.add(Mend::Item {
-        first: anchor.first,
-        last: anchor.last,
-        push: match life.kind {
-            Kind::Object(_) => "pushobj",
-            Kind::Raw | Kind::Text | Kind::Cleanup => "push",
-        },
-        name: lines.word(line, 1),
-    })
-}
-
-/// Returns the life of the first cell that leaks; `None` if none leaks.
-pub fn first_leak(run: &WatchedRun<'_>) -> Option<Life> {
+/// Returns the life of the cell that leaks with this index among those that leak; `None` if there is none.
+pub fn leak_of(run: &WatchedRun<'_>, index: usize) -> Option<Life> {
     let Outcome::Ended { leaks, .. } = &run.outcome else {
         return None;
     };
-    let leak = leaks.as_slice().first()?;
+    let leak = leaks.as_slice().get(index)?;
     run.history.lives.find(Ptr {
         place: leak.place,
         number: leak.number,

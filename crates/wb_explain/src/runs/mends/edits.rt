@@ -1,7 +1,6 @@
-//! A change of a script, and the script's text with it.
+//! A change of a script.
 
-use std::alloc::{AllocError, Global};
-use wb_history::ScriptLines;
+use crate::runs::mends::line_changes::LineChange;
 
 /// A change of a script that may mend it. Lines are numbered from 1, as they are before the change.
 #[derive(Clone, Copy, Debug, PartialEq, Eq)]
@@ -66,114 +65,129 @@ pub enum Mend<'a> {
         verb: &'static str,
         field: &'a str,
     },
-    /// A body destroys one item more before line `before`.
+    /// A body takes off one item more before line `before`, by `popdestroy` or by `pop`.
     OneItemLess {
         before: u32,
+        verb: &'static str,
     },
     /// A line comes once more before line `before`.
     Again {
         line: u32,
         before: u32,
     },
-    /// After the TRAP of lines `trap` to `end`, the code that it gave is looked at.
+    /// After the TRAP of lines `trap` to `end`, the code that it gave is looked at. Line `again` gives the int another value; it is 0 if none does.
     CodeLookedAt {
         trap: u32,
         end: u32,
+        again: u32,
         name: &'a str,
     },
-}
-
-/// Returns a script's text with a change. The only error is that memory ran out.
-pub fn text_with(
-    alloc: Global,
-    lines: &ScriptLines<'_>,
-    mend: Mend<'_>,
-) -> Result<String, AllocError> {
-    let mut text = String::new(alloc);
-    for line in 1..=lines.count() {
-        put_before(&mut text, lines, line, mend)?;
-        if !mend.takes(line) {
-            put_line(&mut text, lines.line(line))?;
-        }
-        put_after(&mut text, lines, line, mend)?;
-    }
-    Ok(text)
-}
-
-impl<'a> Mend<'a> {
-    /// Whether the change takes a line from its place.
-    fn takes(self, at: u32) -> bool {
-        match self {
-            Mend::Later { line, .. } | Mend::Earlier { line, .. } | Mend::AfterFreed { line, .. } =>
-                line == at,
-            Mend::WithoutItem { push, pop } => push == at || pop == at,
-            _ => false,
-        }
-    }
-}
-
-/// Adds what the change puts before a line.
-fn put_before(
-    text: &mut String,
-    lines: &ScriptLines<'_>,
-    at: u32,
-    mend: Mend<'_>,
-) -> Result<(), AllocError> {
-    match mend {
-        Mend::OldValue { line, name } if line == at => put_words(text, "null", name),
-        Mend::Item {
-            first,
-            push,
-            name,
-            ..
-        } if first == at => put_words(text, push, name),
-        Mend::Again { line, before } if before == at => put_line(text, lines.line(line)),
-        Mend::NullItem { before, name } if before == at => put_words(text, "push", name),
-        Mend::OneItemLess { before } if before == at => put_words(text, "popdestroy", "1"),
-        _ => Ok(()),
-    }
-}
-
-/// Adds what the change puts after a line.
-fn put_after(
-    text: &mut String,
-    lines: &ScriptLines<'_>,
-    at: u32,
-    mend: Mend<'_>,
-) -> Result<(), AllocError> {
-    match mend {
-        Mend::Later { line, after, .. } | Mend::AfterFreed { line, after, .. } if after == at => {
-            put_line(text, lines.line(line))
-        }
-        Mend::Pop { after } if after == at => put_words(text, "pop", "1"),
-        Mend::Destroyed {
-            destroy,
-            verb,
-            field,
-        } if destroy == at => {
-            text.push_str(verb)?;
-            text.push_str(" self.")?;
-            put_line(text, field)
-        }
-        Mend::Earlier { line, failed } if failed == at.saturating_add(1) => {
-            put_line(text, lines.line(line))
-        }
-        Mend::GivenAway { line, name } | Mend::Released { line, name } if line == at => {
-            put_words(text, "null", name)
-        }
-        Mend::Item { last, .. } if last == at => put_words(text, "pop", "1"),
-        Mend::CodeLookedAt { end, name, .. } if end == at => put_words(text, "leaveiferror", name),
-        _ => Ok(()),
-    }
-}
-
-fn put_words(text: &mut String, verb: &str, operand: &str) -> Result<(), AllocError> {
-    text.push_str(verb)?;
-    text.push_str(" ")?;
-    put_line(text, operand)
-}
-
-fn put_line(text: &mut String, line: &str) -> Result<(), AllocError> {
-    text.push_str(line)?;
-    text.push_str("\n")
+    /// A line that pops several items before the statement of line `failed` left pops `here` of them, and the others come off after line
+    /// `after`.
+    PopLater {
+        line: u32,
+        here: u32,
+        later: u32,
+        failed: u32,
+        after: u32,
+    },
+    /// A line that pops several items after the statement of line `failed` left pops `here` of them, and the others come off before that
+    /// statement.
+    PopEarlier {
+        line: u32,
+        before: u32,
+        here: u32,
+        failed: u32,
+    },
+    /// A line that gives a text or a cell as much room as `had` gives as much as `room`, which line `used` takes. Line `failed` was to make
+    /// another one.
+    Room {
+        line: u32,
+        failed: u32,
+        used: u32,
+        room: u32,
+        had: u32,
+    },
+    /// A new pointer of the body that begins at line `body` gets the cell that a line makes before line `before`, and the line then gives it
+    /// to the field.
+    MadeFirst {
+        body: u32,
+        make: u32,
+        before: u32,
+        name: &'a str,
+    },
+    /// A new pointer of the body that begins at line `body` has the cell that a line makes up to line `after`, and then gives it to the field.
+    /// The statement of line `failed` left.
+    SetLater {
+        body: u32,
+        make: u32,
+        failed: u32,
+        after: u32,
+        push: &'static str,
+        name: &'a str,
+    },
+    /// A line that releases a cell is left out, since the item of line `pushed` does so, or line `used` if `pushed` is 0.
+    LeftOut {
+        line: u32,
+        pushed: u32,
+        used: u32,
+    },
+    /// A line that releases a cell is left out, since line `left` left and so destroyed the cell with its item.
+    Needless {
+        line: u32,
+        left: u32,
+    },
+    /// Before line `before` returns, the cell that a local names is released.
+    FreedAtReturn {
+        before: u32,
+        verb: &'static str,
+        name: &'a str,
+    },
+    /// A line of a destructor or an operation is done only where a pointer isn't null.
+    Checked {
+        line: u32,
+        name: &'a str,
+    },
+    /// Lines come to another place, come once more, or are left out.
+    Lines(LineChange<'a>),
+    /// Before a line that gives a pointer another cell, the cell that the pointer names is released.
+    FreedFirst {
+        line: u32,
+        verb: &'static str,
+        name: &'a str,
+    },
+    /// Lines `from` to `to`, which push an item, come before line `before`; lines `one` and `other`, which pop items by name, change places;
+    /// they are 0 if there are none. The destruction of the item of line `user` uses what line `to` pushes.
+    PushedBefore {
+        from: u32,
+        to: u32,
+        before: u32,
+        user: u32,
+        one: u32,
+        other: u32,
+    },
+    /// A push is left out, and a line below it that takes off several items takes off only this many; it is left out if these are none.
+    PushedOnce {
+        push: u32,
+        line: u32,
+        count: u32,
+    },
+    /// After a line that makes a pointer null, the number that line `stored` stored gets its old value again.
+    StoredBack {
+        stored: u32,
+        after: u32,
+        owner: &'a str,
+        field: &'a str,
+        index: &'a str,
+        number: i32,
+    },
+    /// A line that reallocates leaves if its attempt fails.
+    Leaving {
+        line: u32,
+    },
+    /// After a line that may give a pointer null, the run leaves if it did.
+    NullLeaves {
+        line: u32,
+        name: &'a str,
+    },
 }

@@ -2,6 +2,7 @@
 
 use crate::runs::mends::blocks::{last_line_of, statement_after, statement_before};
 use crate::runs::mends::candidates::Mends;
+use crate::runs::mends::dependent::may_come_after;
 use crate::runs::mends::edits::Mend;
 use std::alloc::AllocError;
 use wb_history::{End, PointerFault, PointerState, ScriptLines, WatchedRun};
@@ -90,6 +91,9 @@ fn add_places<'a>(
             break;
         }
         after = last_line_of(lines, at);
+        if !may_come_after(lines, line, at, after) {
+            break;
+        }
         mends.add(Mend::AfterFreed { line, freed, after })?;
     }
     Ok(())

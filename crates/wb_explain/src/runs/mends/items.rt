@@ -6,7 +6,7 @@ use crate::runs::mends::edits::Mend;
 use std::alloc::AllocError;
 use wb_history::ScriptLines;
 
-/// Proposes that a body destroys an item before it ends or returns.
+/// Proposes that a body takes off an item before it ends or returns.
 pub fn add_one_item_less<'a>(
     mends: &mut Mends<'a>,
     lines: &ScriptLines<'a>,
@@ -21,7 +21,10 @@ pub fn add_one_item_less<'a>(
         _ => false,
     };
     if ends_body {
-        mends.add(Mend::OneItemLess { before: line })
+        for verb in ["popdestroy", "pop"] {
+            mends.add(Mend::OneItemLess { before: line, verb })?;
+        }
+        Ok(())
     } else {
         Ok(())
     }

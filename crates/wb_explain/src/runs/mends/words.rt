@@ -1,7 +1,12 @@
 //! What is said about a change of a script that was tried.
 
 use crate::runs::explanation::Explanation;
+use crate::runs::mends::code_words::put_null_mend;
 use crate::runs::mends::edits::Mend;
+use crate::runs::mends::item_words::put_item_mend;
+use crate::runs::mends::line_changes::LineChange;
+use crate::runs::mends::line_words::{put_line_change, says_cause_of_line};
+use crate::runs::mends::value_words::put_value_mend;
 use crate::runs::script_page::ScriptPage;
 use std::alloc::{AllocError, Global};
 use wb_history::ScriptLines;
@@ -16,18 +21,44 @@ pub enum Tried {
     ThisFailure,
 }
 
-/// Returns what is said about a change that was tried. The only error is that memory ran out.
+/// Returns whether what is said about a change also says how it came to what was found.
+pub fn says_cause(mend: Mend<'_>) -> bool {
+    match mend {
+        Mend::Lines(change) => says_cause_of_line(change),
+        Mend::Item { .. }
+        | Mend::CodeLookedAt { .. }
+        | Mend::FreedFirst { .. }
+        | Mend::FreedAtReturn { .. } => true,
+        _ => false,
+    }
+}
+
+/// Returns whether other advice stays beside a change, since the change gives up what the script does where an attempt fails.
+pub fn is_one_of_several(mend: Mend<'_>) -> bool {
+    match mend {
+        Mend::Lines(LineChange::AsksLeaving { .. }) => true,
+        _ => false,
+    }
+}
+
+/// Returns what is said about a change that was tried; `has_many` says whether more than one attempt was to fail in the run that was found.
+/// The only error is that memory ran out.
 pub fn mend_found(
     alloc: Global,
     lines: &ScriptLines<'_>,
     mend: Mend<'_>,
     tried: Tried,
+    has_many: bool,
 ) -> Result<Explanation, AllocError> {
     let mut page = ScriptPage::new(alloc, lines);
     page.page.begin_help();
     put_mend(&mut page, mend);
     page.page.write_text(match tried {
+        Tried::Whole if has_many => {
+            " (tried: then neither these failures nor any single one leaks or panics)"
+        }
         Tried::Whole => " (tried: then no single failure leaks or panics)",
+        Tried::ThisFailure if has_many => { " (tried: then these failures neither leak nor panic)" }
         Tried::ThisFailure => " (tried: then this failure neither leaks nor panics)",
     });
     page.page.end_line();
@@ -48,56 +79,56 @@ fn put_mend(page: &mut ScriptPage<'_>, mend: Mend<'_>) {
             put_left(page, failed);
             page.page.write_text(": let it come before that");
         }
-        Mend::GivenAway { line, name } => page.page.write(format_args!(
-            "since line {line} two pointers name one cell: set `{name}` to null right after it, with `null {name}`"
-        )),
-        Mend::Released { line, name } => page.page.write(format_args!(
-            "`{name}` still names what line {line} released: set it to null right after that, with `null {name}`"
-        )),
-        Mend::OldValue { line, name } => page.page.write(format_args!(
-            "line {line} left, so `{name}` kept its old value: set it to null before that, with `null {name}`"
-        )),
-        Mend::Item {
-            first,
-            last,
-            push,
-            name,
-        } => put_item(page, first, last, push, name),
-        Mend::CodeLookedAt { trap, end, name } => page.page.write(format_args!(
-            "line {trap} caught a leave, and no line looks at `{name}`: put `leaveiferror {name}` after line {end}"
-        )),
         Mend::Again { line, before } => {
             let (name, words) = (page.word(line, 1), page.line(line));
             page.page.write(format_args!(
                 "`{name}` got its value at line {line}, before its cell moved: let it get its value again before line {before}, with `{words}`"
             ));
         }
-        Mend::Pop { after } => page.page.write(format_args!(
-            "the call of line {after} leaves an item that no later line expects: pop it right after that line, with `pop 1`"
-        )),
         Mend::AfterFreed { line, freed, after } => {
             let name = page.word(line, 1);
             page.page.write(format_args!(
-                "`{name}` got its value at line {line}, before line {freed} freed its cell: let line {line} come after line {after}"
+                "`{name}` got its value at line {line}, before line {freed} freed its cell: let line {line} come right after line {after}"
             ));
         }
-        Mend::NullItem { before, name } => page.page.write(format_args!(
-            "a later line pops an item that was never pushed: put `push {name}` before line {before}, since an item of null does nothing"
-        )),
-        Mend::Destroyed {
-            destroy,
-            verb,
-            field,
-        } => page.page.write(format_args!(
-            "the `destroy` of line {destroy} leaves `{field}`: put `{verb} self.{field}` there"
-        )),
-        Mend::WithoutItem { push, pop } => page.page.write(format_args!(
-            "the item that line {push} pushes is one too many: leave out line {push}, and line {pop}, which pops it"
-        )),
-        Mend::OneItemLess { before } => page.page.write(format_args!(
-            "an item too many stays on the cleanup stack: destroy it before line {before}, with `popdestroy 1`"
-        )),
+        Mend::CodeLookedAt {
+            trap,
+            end,
+            again,
+            name,
+        } => put_look(page, trap, end, again, name),
+        _ => put_more(page, mend),
     }
+}
+
+/// Writes about a change of items, or about one of what pointers name.
+fn put_more(page: &mut ScriptPage<'_>, mend: Mend<'_>) {
+    match mend {
+        Mend::Lines(change) => put_line_change(page, change),
+        Mend::Item { .. }
+        | Mend::WithoutItem { .. }
+        | Mend::Pop { .. }
+        | Mend::NullItem { .. }
+        | Mend::OneItemLess { .. }
+        | Mend::PopLater { .. }
+        | Mend::PopEarlier { .. }
+        | Mend::PushedBefore { .. }
+        | Mend::PushedOnce { .. }
+        | Mend::Needless { .. }
+        | Mend::LeftOut { .. } => put_item_mend(page, mend),
+        Mend::Leaving { .. } | Mend::NullLeaves { .. } | Mend::Checked { .. } => {
+            put_null_mend(page, mend);
+        }
+        _ => put_value_mend(page, mend),
+    }
+}
+
+fn put_look(page: &mut ScriptPage<'_>, trap: u32, end: u32, again: u32, name: &str) {
+    page.page.write(format_args!("line {trap} caught a leave, and no line looks at `{name}`"));
+    if again != 0 {
+        page.page.write(format_args!(" before line {again} gives it another value"));
+    }
+    page.page.write(format_args!(": put `leaveiferror {name}` after line {end}"));
 }
 
 fn put_later(page: &mut ScriptPage<'_>, line: u32, failed: u32, has_left: bool, after: u32) {
@@ -108,28 +139,12 @@ fn put_later(page: &mut ScriptPage<'_>, line: u32, failed: u32, has_left: bool, 
     } else {
         page.page.write(format_args!("line {failed} failed"));
     }
-    if after == failed {
-        page.page.write_text(": let it come after that");
-    } else {
-        page.page
-            .write(format_args!(": let it come after line {after}"));
-    }
-}
-
-fn put_item(page: &mut ScriptPage<'_>, first: u32, last: u32, push: &str, name: &str) {
     page.page
-        .write(format_args!("no item held the cell of `{name}` when "));
-    put_left(page, first);
-    page.page.write(format_args!(": put `{push} {name}` before that, and `pop 1` after "));
-    if first == last {
-        page.page.write_text("it");
-    } else {
-        page.page.write(format_args!("line {last}"));
-    }
+        .write(format_args!(": let it come right after line {after}"));
 }
 
 /// Writes which statement a leave ended, or which TRAP caught the leave, by its first line.
-fn put_left(page: &mut ScriptPage<'_>, line: u32) {
+pub fn put_left(page: &mut ScriptPage<'_>, line: u32) {
     let word = page.word(line, 0);
     match word {
         "if" | "repeat" => page
