@@ -31,13 +31,11 @@ pub fn add_for_passed<'a>(
 
 /// The line that took off an item too many; 0 if none is known.
 fn pop_at_fault(lines: &ScriptLines<'_>, run: &WatchedRun<'_>) -> u32 {
-    let last = run.history.last_line();
-    if run.end.raised.is_some() && pops(lines.word(last, 0)) {
-        return last;
-    }
-    let items = &run.history.items;
+    let (items, last) = (&run.history.items, run.history.last_line());
     match (items.of_caller, items.after_callee) {
-        (Some(taken), _) | (None, Some(taken)) => taken.line,
+        (Some(taken), _) => taken.line,
+        (None, _) if run.end.raised.is_some() && pops(lines.word(last, 0)) => last,
+        (None, Some(taken)) => taken.line,
         (None, None) => 0,
     }
 }
